@@ -1,0 +1,155 @@
+-- What is read keeps the kinds: no relation row holds an aggregate.
+use Prim.Native.Nat.{ℕ, zero, suc, _+_, _<_, _≤_}
+use native.Mathlib.Omega.{arith}
+use mathlib.Core.Path.{_≡_, refl, sym, _∙_, ap, subst}
+use mathlib.Core.Logic.{_⊎_, inl, inr}
+use mathlib.Core.Bool.{Bool, true, false, _&&_, _||_, not}
+use mathlib.Core.List.{List, [], _∷_, _++_}
+use mathlib.Core.Option.{Option, none, some}
+use lib.Dec.{T, T-not, not-T, eqb, ltb, leb→le}
+use lib.ListN.{length, getD, drop, take}
+use lib.IntN.{ℤ}
+use Rattle.model.specs.Checks.{countsFit, allThere}
+use Rattle.model.specs.Format.{Parser, after, _>>=_, give, fail, only, times, byte, number64, eight, signed, aggregateIs, elementOf, element, rowKinds, relation, condition, output}
+use Rattle.model.specs.Lists.{all, any, All}
+use Rattle.model.specs.Question.{Element, empty, constant, variable, fixed, aggregate, RelationRow, Condition, Block, noBlock, blockAt, isAggregate, inRows}
+use Rattle.model.specs.Records.{Mark, BK, RW, CD, OL, EN, marked, many, one, block, ends, question, blocksOf, questionOf}
+use Rattle.model.specs.Refusal.{firstOf, causes}
+use Rattle.model.proofs.Accepted.{sound}
+use Rattle.model.proofs.Sound.{Sound}
+use Rattle.model.proofs.Tests.{and-left, and-right}
+use Rattle.model.proofs.RefusalLaws.{QuestionPasses}
+
+module _ {A : Type 0} where
+  -- what a reader gives has P
+  abbrev Has : (A → Type 0) → Option (A × List ℕ) → Type 0
+  Has P none = Unit {0}
+  Has P (some x) = P (x .0)
+
+any-has : {A : Type 0} (o : Option (A × List ℕ)) → Has (λ x. Unit {0}) o
+any-has none = tt
+any-has (some x) = tt
+
+module _ {A B : Type 0} (P : A → Type 0) (Q : B → Type 0) where
+  after-has : (o : Option (A × List ℕ)) (f : A → Parser B) → Has P o → ((a : A) → P a → (bs : List ℕ) → Has Q (f a bs)) → Has Q (after o f)
+  unfolding after
+  after-has none f h g = tt
+  after-has (some x) f h g = g (x .0) h (x .1)
+
+module _ {A : Type 0} (P : A → Type 0) where
+  times-has : (n : ℕ) (r : Parser A) (bs : List ℕ) → ((cs : List ℕ) → Has P (r cs)) → Has (All P) (times n r bs)
+  unfolding times
+  times-has zero r bs h = tt
+  times-has (suc n) r bs h = after-has P (All P) (r bs) _ (h bs) (λ a p cs. after-has (All P) (All P) (times n r cs) _ (times-has n r cs h) (λ xs ps ds. (p, ps)))
+
+  many-has : (n : ℕ) (x : Mark) (r : Parser A) (bs : List ℕ) → ((cs : List ℕ) → Has P (r cs)) → Has (All P) (many n x r bs)
+  unfolding many
+  many-has zero x r bs h = tt
+  many-has (suc n) x r bs h = go (marked x bs) refl (λ cs. many-has n x r cs h)
+    where
+      go : (t : Bool) → marked x bs ≡ t → ((cs : List ℕ) → Has (All P) (many n x r cs)) → Has (All P) (many (suc n) x r bs)
+      go true e k = rw (e, many) (after-has P (All P) (r (drop 2 bs)) _ (h (drop 2 bs)) (λ a p cs. after-has (All P) (All P) (many n x r cs) _ (k cs) (λ xs ps ds. (p, ps))))
+      go false e k = rw (e, many) tt
+
+abbrev Plain : Element → Type 0
+Plain e = T (not (isAggregate e))
+
+abbrev PlainRow : RelationRow → Type 0
+PlainRow w = All Plain (w .entries)
+
+abbrev PlainBlock : Block → Type 0
+PlainBlock k = All PlainRow (k .relations)
+
+only-has : (t : Bool) (k : ℕ) (bs : List ℕ) → Has (λ k′. (k ≡ k′) × T t) (only t k bs)
+unfolding only
+only-has true k bs = (refl, tt)
+only-has false k bs = tt
+
+element-of : (k : ℕ) (xs bs : List ℕ) → T (rowKinds k) → Has Plain (elementOf k xs bs)
+unfolding elementOf give fail only
+element-of zero xs bs t = go (eqb (number64 xs) 0)
+  where
+    go : (t : Bool) → Has Plain (only t empty bs)
+    go true = tt
+    go false = tt
+element-of (suc zero) xs bs t = tt
+element-of (suc (suc zero)) xs bs t = tt
+element-of (suc (suc (suc zero))) xs bs t = tt
+element-of (suc (suc (suc (suc zero)))) xs bs t = absurd t
+element-of (suc (suc (suc (suc (suc k))))) xs bs t = tt
+
+element-has : (bs : List ℕ) → Has Plain (element rowKinds bs)
+unfolding element _>>=_
+element-has bs =
+    after-has (λ k. Unit {0}) Plain (byte bs) _ (any-has (byte bs)) (λ k u cs.
+      after-has (λ k′. (k ≡ k′) × T (rowKinds k)) Plain (only (rowKinds k) k cs) _ (only-has (rowKinds k) k cs) (λ k′ h ds.
+        after-has (λ xs. Unit {0}) Plain (eight ds) _ (any-has (eight ds)) (λ xs v es. element-of k′ xs es (subst (λ z. T (rowKinds z)) (h .0) (h .1)))))
+
+relation-has : (bs : List ℕ) → Has PlainRow (relation bs)
+unfolding relation _>>=_ give
+relation-has bs =
+    after-has (λ k. Unit {0}) PlainRow (byte bs) _ (any-has (byte bs)) (λ t u cs.
+      after-has (λ k. Unit {0}) PlainRow (byte cs) _ (any-has (byte cs)) (λ n u ds.
+        after-has (All Plain) PlainRow (times n (element rowKinds) ds) _ (times-has Plain n (element rowKinds) ds element-has) (λ es h fs. h)))
+
+block-has : (n : ℕ) (bs : List ℕ) → Has PlainBlock (block n bs)
+unfolding block _>>=_ give
+block-has n bs =
+    after-has (λ k. Unit {0}) PlainBlock (byte bs) _ (any-has (byte bs)) (λ p u cs.
+      after-has (All PlainRow) PlainBlock (many n RW relation cs) _ (many-has PlainRow n RW relation cs relation-has) (λ ws h ds.
+        after-has (λ k. Unit {0}) PlainBlock (many n CD condition ds) _ (any-has (many n CD condition ds)) (λ xs u es.
+          after-has (λ k. Unit {0}) PlainBlock (one OL output es) _ (any-has (one OL output es)) (λ os u fs. h))))
+
+abbrev Has? : (List Block → Type 0) → Option (List Block) → Type 0
+Has? P none = Unit {0}
+Has? P (some q) = P q
+
+question-has : (bs : List ℕ) → Has? (All PlainBlock) (question bs)
+unfolding question
+question-has bs = go (many (length bs) BK (block (length bs)) bs) refl (many-has PlainBlock (length bs) BK (block (length bs)) bs (block-has (length bs)))
+  where
+    go : (o : Option (List Block × List ℕ)) → many (length bs) BK (block (length bs)) bs ≡ o → Has (All PlainBlock) o → Has? (All PlainBlock) (question bs)
+    go none e h = rw (e, question) tt
+    go (some x) e h = rw (e, question) (fin (marked EN (x .1) && ends (drop 2 (x .1))))
+      where
+        fin : (t : Bool) → Has? (All PlainBlock) (elim t as (λ _. Option (List Block)) [ true ↦ some (x .0) | false ↦ none ])
+        fin true = h
+        fin false = tt
+
+-- so a question that is read and that no cause refuses is sound
+none-plain : (es : List Element) → All Plain es → any isAggregate es ≡ false
+unfolding any
+none-plain [] u = refl
+none-plain (empty ∷ es) u = none-plain es (u .1)
+none-plain (constant x ∷ es) u = none-plain es (u .1)
+none-plain (variable x ∷ es) u = none-plain es (u .1)
+none-plain (fixed x ∷ es) u = none-plain es (u .1)
+none-plain (aggregate f k c ∷ es) u = absurd (u .0)
+
+plain-rows : (ws : List RelationRow) → All PlainRow ws → T (not (inRows isAggregate ws))
+unfolding inRows any
+plain-rows [] u = tt
+plain-rows (w ∷ ws) u = rw (none-plain (w .entries) (u .0)) (plain-rows ws (u .1))
+
+plain-at : (q : List Block) (j : ℕ) → All PlainBlock q → T (not (inRows isAggregate (blockAt q j .relations)))
+unfolding inRows any
+plain-at [] j u = tt
+plain-at (k ∷ q) zero u = plain-rows (k .relations) (u .0)
+plain-at (k ∷ q) (suc j) u = plain-at q j (u .1)
+
+kinds-of : (bs : List ℕ) → All PlainBlock (questionOf bs)
+unfolding questionOf
+kinds-of bs = go (question bs) (question-has bs)
+  where
+    go : (o : Option (List Block)) → Has? (All PlainBlock) o → All PlainBlock (blocksOf o)
+    go none h = tt
+    go (some q) h = h
+
+pub passed-sound : (d : List ℤ) (qs : List ℕ) → QuestionPasses d qs → Sound (questionOf qs)
+passed-sound d qs p =
+  sound d (questionOf qs) (p .counts) (p .there) (p .bound) (λ j. plain-at (questionOf qs) j (kinds-of qs))
+
+-- and it has a block
+pub passed-some : (d : List ℤ) (qs : List ℕ) → QuestionPasses d qs → 0 < length (questionOf qs)
+unfolding countsFit
+passed-some d qs p = leb→le 1 (length (questionOf qs)) (let a = p .counts in search (and-left, and-right))

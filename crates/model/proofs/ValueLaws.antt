@@ -1,0 +1,216 @@
+-- Integers and values in order: the order of values in lowest terms is linear; `ratio` gives lowest terms and the same value.
+use Prim.Native.Nat.{ℕ, zero, suc, _+_, _*_, _/_, _<_, _≤_, zero-le, suc-le-suc, compare, Ordering, Ordering·lt, Ordering·eq, Ordering·gt, compare·zero-zero, compare·zero-suc, compare·suc-zero, compare·suc-suc}
+use native.Mathlib.Nat.{le-of-suc-le-suc, not-suc-le-zero, mul-lt-mul-of-pos-right, mul-pos, zero-mul, mul-one, mul-div-cancel', eq-of-mul-eq-mul-left, pos-of-dvd-of-pos, eq-one-of-dvd-one}
+use native.Mathlib.Omega.{arith}
+use mathlib.Core.Path.{_≡_, refl, sym, _∙_, ap, ap₂, subst}
+use mathlib.Core.List.{List, [], _∷_}
+use lib.Dec.{T, isEq, eqb→eq}
+use lib.IntN.{ℤ, pos, negsuc, natAbs, negℤ, _*ℤ_}
+use Rattle.model.specs.Value.{Value, whole, gcd, divZ, ratio, compareZ, order}
+use Rattle.model.proofs.GcdLaws.{scale, gcd-left, gcd-right, pos-factor, coprime-den}
+use Rattle.model.proofs.SetLaws.{Linear}
+
+pub never : {A : Type 0} → Ordering·lt ≡ Ordering·eq → A
+never e = let z : _≡_ {A = ℕ} 0 1 = cc in absurd (omega arith)
+
+-- the native comparison
+pub compare-same : (m n : ℕ) → compare m n ≡ Ordering·eq → m ≡ n
+compare-same m n e = eqb→eq m n (subst (λ o. T (isEq o)) (sym e) tt)
+
+pub compare-self : (n : ℕ) → compare n n ≡ Ordering·eq
+compare-self zero = refl
+compare-self (suc n) = compare·suc-suc n n ∙ compare-self n
+
+pub compare-turn : (m n : ℕ) → compare m n ≡ Ordering·gt → compare n m ≡ Ordering·lt
+compare-turn zero zero e = cc
+compare-turn zero (suc n) e = cc (compare·zero-suc n)
+compare-turn (suc m) zero e = compare·zero-suc m
+compare-turn (suc m) (suc n) e = compare·suc-suc n m ∙ compare-turn m n (sym (compare·suc-suc m n) ∙ e)
+
+pub compare-chain : (k m n : ℕ) → compare k m ≡ Ordering·lt → compare m n ≡ Ordering·lt → compare k n ≡ Ordering·lt
+compare-chain zero m zero e f = to m f
+  where
+    to : (m : ℕ) → compare m zero ≡ Ordering·lt → Ordering·eq ≡ Ordering·lt
+    to zero h = h
+    to (suc m) h = cc (compare·suc-zero m)
+compare-chain zero m (suc n) e f = compare·zero-suc n
+compare-chain (suc k) zero n e f = cc (compare·suc-zero k)
+compare-chain (suc k) (suc m) zero e f = cc (compare·suc-zero m)
+compare-chain (suc k) (suc m) (suc n) e f = compare·suc-suc k n ∙ compare-chain k m n (sym (compare·suc-suc k m) ∙ e) (sym (compare·suc-suc m n) ∙ f)
+
+-- the integers
+pub linearZ : Linear (λ x. Unit {0}) compareZ
+unfolding compareZ
+linearZ = record { same = λ x y p q. same x y; self = self; turn = λ x y p q. turn x y; chain = λ x y z p q r. chain x y z }
+  where
+    same : (x y : ℤ) → compareZ x y ≡ Ordering·eq → x ≡ y
+    same (pos m) (pos n) e = ap pos (compare-same m n e)
+    same (pos m) (negsuc n) e = cc
+    same (negsuc m) (pos n) e = cc
+    same (negsuc m) (negsuc n) e = ap negsuc (sym (compare-same n m e))
+
+    self : (x : ℤ) → compareZ x x ≡ Ordering·eq
+    self (pos m) = compare-self m
+    self (negsuc m) = compare-self m
+
+    turn : (x y : ℤ) → compareZ x y ≡ Ordering·gt → compareZ y x ≡ Ordering·lt
+    turn (pos m) (pos n) e = compare-turn m n e
+    turn (pos m) (negsuc n) e = refl
+    turn (negsuc m) (pos n) e = cc
+    turn (negsuc m) (negsuc n) e = compare-turn n m e
+
+    chain : (x y z : ℤ) → compareZ x y ≡ Ordering·lt → compareZ y z ≡ Ordering·lt → compareZ x z ≡ Ordering·lt
+    chain (pos k) (pos m) (pos n) e f = compare-chain k m n e f
+    chain (pos k) (pos m) (negsuc n) e f = cc
+    chain (pos k) (negsuc m) z e f = cc
+    chain (negsuc k) y (pos n) e f = refl
+    chain (negsuc k) (pos m) (negsuc n) e f = cc
+    chain (negsuc k) (negsuc m) (negsuc n) e f = compare-chain n m k f e
+
+-- a positive factor changes no comparison
+compare-lt : (m n : ℕ) → m < n → compare m n ≡ Ordering·lt
+compare-lt zero zero h = absurd (omega arith)
+compare-lt zero (suc n) h = compare·zero-suc n
+compare-lt (suc m) zero h = absurd (omega arith)
+compare-lt (suc m) (suc n) h = compare·suc-suc m n ∙ compare-lt m n (omega arith)
+
+lt-compare : (m n : ℕ) → compare m n ≡ Ordering·lt → m < n
+lt-compare zero zero e = let z : _≡_ {A = ℕ} 0 1 = cc (compare-self 0) in absurd (omega arith)
+lt-compare zero (suc n) e = omega arith
+lt-compare (suc m) zero e = let z : _≡_ {A = ℕ} 0 1 = cc (compare·suc-zero m) in absurd (omega arith)
+lt-compare (suc m) (suc n) e = omega (arith, lt-compare m n (sym (compare·suc-suc m n) ∙ e))
+
+compare-gt : (m n : ℕ) → n < m → compare m n ≡ Ordering·gt
+compare-gt zero n h = absurd (omega arith)
+compare-gt (suc m) zero h = compare·suc-zero m
+compare-gt (suc m) (suc n) h = compare·suc-suc m n ∙ compare-gt m n (omega arith)
+
+compare-scale : (a b k : ℕ) → 0 < k → compare (a * k) (b * k) ≡ compare a b
+compare-scale a b k h = go (compare a b) refl
+  where
+    go : (o : Ordering) → compare a b ≡ o → compare (a * k) (b * k) ≡ compare a b
+    go Ordering·lt e = compare-lt (a * k) (b * k) (mul-lt-mul-of-pos-right (lt-compare a b e) h) ∙ sym e
+    go Ordering·eq e = ap (λ z. compare z (b * k)) (ap (λ z. z * k) (compare-same a b e)) ∙ compare-self (b * k) ∙ sym e
+    go Ordering·gt e = compare-gt (a * k) (b * k) (mul-lt-mul-of-pos-right (lt-compare b a (compare-turn a b e)) h) ∙ sym e
+
+above-neg : (n m : ℕ) → 0 < m → compareZ (pos n) (negℤ (pos m)) ≡ Ordering·gt
+unfolding compareZ
+above-neg n zero h = absurd (omega arith)
+above-neg n (suc m) h = refl
+
+below-pos : (n m : ℕ) → 0 < m → compareZ (negℤ (pos m)) (pos n) ≡ Ordering·lt
+unfolding compareZ
+below-pos n zero h = absurd (omega arith)
+below-pos n (suc m) h = refl
+
+compare-neg : (m n : ℕ) → 0 < m → 0 < n → compareZ (negℤ (pos m)) (negℤ (pos n)) ≡ compare n m
+unfolding compareZ
+compare-neg zero n h k = absurd (omega arith)
+compare-neg (suc m) zero h k = absurd (omega arith)
+compare-neg (suc m) (suc n) h k = sym (compare·suc-suc n m)
+
+pub scaleZ : (x y : ℤ) (k : ℕ) → 0 < k → compareZ (x *ℤ pos k) (y *ℤ pos k) ≡ compareZ x y
+unfolding compareZ
+scaleZ (pos a) (pos b) k h = compare-scale a b k h
+scaleZ (pos a) (negsuc b) k h = above-neg (a * k) (suc b * k) (mul-pos (omega arith) h)
+scaleZ (negsuc a) (pos b) k h = below-pos (b * k) (suc a * k) (mul-pos (omega arith) h)
+scaleZ (negsuc a) (negsuc b) k h = compare-neg (suc a * k) (suc b * k) (mul-pos (omega arith) h) (mul-pos (omega arith) h) ∙ compare-scale (suc b) (suc a) k h ∙ compare·suc-suc b a
+
+neg-mul : (m b : ℕ) → negℤ (pos m) *ℤ pos b ≡ negℤ (pos (m * b))
+neg-mul zero b = rw zero-mul
+neg-mul (suc m) b = refl
+
+swap-factors : (x : ℤ) (a b : ℕ) → x *ℤ pos a *ℤ pos b ≡ x *ℤ pos b *ℤ pos a
+swap-factors (pos n) a b = ap pos (omega arith)
+swap-factors (negsuc n) a b = let e : suc n * a * b ≡ suc n * b * a = omega arith in neg-mul (suc n * a) b ∙ ap (λ z. negℤ (pos z)) e ∙ sym (neg-mul (suc n * b) a)
+
+neg-abs : (x : ℤ) → natAbs (negℤ x) ≡ natAbs x
+neg-abs (pos zero) = refl
+neg-abs (pos (suc n)) = refl
+neg-abs (negsuc n) = refl
+
+mul-abs : (x : ℤ) (k : ℕ) → natAbs (x *ℤ pos k) ≡ natAbs x * k
+mul-abs (pos n) k = refl
+mul-abs (negsuc n) k = neg-abs (pos (suc n * k))
+
+-- a value in lowest terms
+pub record Lowest (x : Value) : Type 0 where
+  pub positive : 0 < x .den
+  pub coprime : gcd (natAbs (x .num)) (x .den) ≡ 1
+
+pub whole-lowest : (x : ℤ) → Lowest (whole x)
+whole-lowest x = record { positive = omega arith; coprime = eq-one-of-dvd-one (gcd-right (natAbs x) 1) }
+
+-- the same value in lowest terms is the same numerator and denominator
+same-value : (x y : Value) → Lowest x → Lowest y → x .num *ℤ pos (y .den) ≡ y .num *ℤ pos (x .den) → x ≡ y
+same-value x y p q e = ap₂ (λ a b. record { num = a; den = b }) nums dens
+  where
+    dens : x .den ≡ y .den
+    dens = coprime-den (natAbs (x .num)) (x .den) (natAbs (y .num)) (y .den) (p .positive) (q .positive) (p .coprime) (q .coprime) (sym (mul-abs (x .num) (y .den)) ∙ ap natAbs e ∙ mul-abs (y .num) (x .den))
+
+    crossed : compareZ (x .num *ℤ pos (x .den)) (y .num *ℤ pos (x .den)) ≡ Ordering·eq
+    crossed = ap (λ z. compareZ z (y .num *ℤ pos (x .den))) (ap (λ k. x .num *ℤ pos k) dens ∙ e) ∙ linearZ .self (y .num *ℤ pos (x .den))
+
+    nums : x .num ≡ y .num
+    nums = linearZ .same (x .num) (y .num) tt tt (sym (scaleZ (x .num) (y .num) (x .den) (p .positive)) ∙ crossed)
+
+order-chain : (x y z : Value) → Lowest x → Lowest y → Lowest z → order x y ≡ Ordering·lt → order y z ≡ Ordering·lt → order x z ≡ Ordering·lt
+unfolding order
+order-chain x y z p q r e f =
+    let X = x .num in let Y = y .num in let Z = z .num in
+    let a = x .den in let b = y .den in let c = z .den in
+    let e′ : compareZ (X *ℤ pos b *ℤ pos c) (Y *ℤ pos a *ℤ pos c) ≡ Ordering·lt = scaleZ (X *ℤ pos b) (Y *ℤ pos a) c (r .positive) ∙ e in
+    let f′ : compareZ (Y *ℤ pos c *ℤ pos a) (Z *ℤ pos b *ℤ pos a) ≡ Ordering·lt = scaleZ (Y *ℤ pos c) (Z *ℤ pos b) a (p .positive) ∙ f in
+    let g : compareZ (X *ℤ pos b *ℤ pos c) (Z *ℤ pos b *ℤ pos a) ≡ Ordering·lt = linearZ .chain (X *ℤ pos b *ℤ pos c) (Y *ℤ pos a *ℤ pos c) (Z *ℤ pos b *ℤ pos a) tt tt tt e′ (ap (λ t. compareZ t (Z *ℤ pos b *ℤ pos a)) (swap-factors Y a c) ∙ f′) in
+    sym (scaleZ (X *ℤ pos c) (Z *ℤ pos a) b (q .positive)) ∙ ap₂ compareZ (swap-factors X c b) (swap-factors Z a b) ∙ g
+
+pub linearValue : Linear Lowest order
+unfolding order
+linearValue =
+  record
+    { same = λ x y p q e. same-value x y p q (linearZ .same (x .num *ℤ pos (y .den)) (y .num *ℤ pos (x .den)) tt tt e)
+    ; self = λ x. linearZ .self (x .num *ℤ pos (x .den))
+    ; turn = λ x y p q. linearZ .turn (x .num *ℤ pos (y .den)) (y .num *ℤ pos (x .den)) tt tt
+    ; chain = order-chain
+    }
+
+-- `ratio`
+module _ (n d : ℕ) (h : 0 < d) where
+  gcd-pos : 0 < gcd n d
+  gcd-pos = pos-of-dvd-of-pos (gcd-right n d) h
+
+  top : gcd n d * (n / gcd n d) ≡ n
+  top = mul-div-cancel' (gcd n d) (gcd-left n d)
+
+  low : gcd n d * (d / gcd n d) ≡ d
+  low = mul-div-cancel' (gcd n d) (gcd-right n d)
+
+  low-pos : 0 < d / gcd n d
+  low-pos = pos-factor (gcd n d) (d / gcd n d) d low h
+
+  divided-coprime : gcd (n / gcd n d) (d / gcd n d) ≡ 1
+  divided-coprime = eq-of-mul-eq-mul-left (gcd n d) gcd-pos (gcd (n / gcd n d) (d / gcd n d)) 1 (sym (scale (gcd n d) (n / gcd n d) (d / gcd n d) gcd-pos) ∙ ap₂ gcd top low ∙ sym (mul-one (gcd n d)))
+
+  divided-same : n / gcd n d * d ≡ n * (d / gcd n d)
+  divided-same =
+      let g = gcd n d in let u = n / gcd n d in let w = d / gcd n d in
+      ap (λ t. u * t) (sym low) ∙ (let e : u * (g * w) ≡ (g * u) * w = omega arith in e) ∙ ap (λ t. t * w) top
+
+div-abs : (x : ℤ) (k : ℕ) → natAbs (divZ x k) ≡ natAbs x / k
+unfolding divZ
+div-abs (pos n) k = refl
+div-abs (negsuc n) k = neg-abs (pos (suc n / k))
+
+pub ratio-lowest : (n : ℤ) (d : ℕ) → 0 < d → Lowest (ratio n d)
+unfolding ratio
+ratio-lowest n d h = record { positive = low-pos (natAbs n) d h; coprime = rw div-abs (divided-coprime (natAbs n) d h) }
+
+pub ratio-value : (n : ℤ) (d : ℕ) → 0 < d → ratio n d .num *ℤ pos d ≡ n *ℤ pos (ratio n d .den)
+unfolding ratio divZ
+ratio-value (pos n) d h = ap pos (divided-same n d h)
+ratio-value (negsuc n) d h = neg-mul (suc n / gcd (suc n) d) d ∙ ap (λ t. negℤ (pos t)) (divided-same (suc n) d h)
+
+-- so it compares equal with the bare numerator over the bare denominator
+pub ratio-order : (n : ℤ) (d : ℕ) → 0 < d → order (ratio n d) (record { num = n; den = d }) ≡ Ordering·eq
+unfolding order
+ratio-order n d h = ap (λ t. compareZ t (n *ℤ pos (ratio n d .den))) (ratio-value n d h) ∙ linearZ .self (n *ℤ pos (ratio n d .den))

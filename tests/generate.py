@@ -1,0 +1,300 @@
+"""Jobs at random from a seed: accepted questions with all admitted plans, crowded sets, limits, damaged jobs.
+
+Command line: `generate.py jobs SEED COUNT > stream`, `generate.py indexes SEED COUNT > index stream`; the answers
+are `evaluator.py answers < stream` and `evaluator.py indexes < index stream`. `generate.py limits > stream` has the
+limit jobs alone, those over 4,000 words too.
+"""
+
+import sys
+from dataclasses import dataclass, field
+
+import damage
+import format as fmt
+import limits
+from draw import Draw
+from naive.matching import Matching
+from naive.plan import Path, admitted_paths
+from naive.question import read_question
+from naive.tables import tables_of
+from naive.trials import Spent, Trials
+
+MOST_TRIALS = 4_000         # of a generated question by file
+DEEPEST_LEVEL = 4
+
+
+@dataclass
+class Draft:
+    """A job before it is written, so that it can be damaged part by part."""
+    tables: list
+    blocks: list
+    paths: list = field(default_factory=list)
+    budget: int = fmt.LISTING_BUDGET
+    lengths: tuple = tuple(fmt.BUFFER_WORDS)
+    data_patches: list = field(default_factory=list)        # functions on the words or bytes written
+    question_patches: list = field(default_factory=list)
+    plan_patches: list = field(default_factory=list)
+
+    def job(self):
+        data, question = fmt.data_words(self.tables), fmt.question_bytes(self.blocks)
+        plan = fmt.plan_bytes(self.paths)
+        for patch in self.data_patches:
+            data = patch(data)
+        for patch in self.question_patches:
+            question = patch(question)
+        for patch in self.plan_patches:
+            plan = patch(plan)
+        return fmt.Job(data, question, plan, self.budget, self.lengths)
+
+    def matching(self):
+        return Matching(read_question(fmt.question_bytes(self.blocks)), tables_of(fmt.data_words(self.tables)))
+
+    def admitted(self):
+        """The admitted paths of each block."""
+        blocks = read_question(fmt.question_bytes(self.blocks))
+        return [[tuple(path) for path in admitted_paths(blocks, number)] for number in range(len(blocks))]
+
+
+def random_tables(draw):
+    """One to four tables of few small values, so that rows meet; some repeated rows, some values at the ends."""
+    tables = []
+    for _ in range(draw.between(1, 4)):
+        columns, rows = draw.between(1, 4), []
+        for _ in range(draw.one_of([0, 2, 3, 4, 4, 5, 6, 7, 8])):
+            if rows and draw.chance(20):
+                rows.append(list(draw.one_of(rows)))
+            else:
+                rows.append([random_value(draw) for _ in range(columns)])
+        tables.append((columns, rows))
+    return tables
+
+
+def random_value(draw):
+    return draw.one_of([-1_000_000, 1_000_000, 999_999, -7, 905]) if draw.chance(4) else draw.one_of([-1, 0, 0, 1, 1, 1, 2, 2, 3])
+
+
+class QuestionMaker:
+    """One question free of causes 5 to 10, over given tables."""
+
+    def __init__(self, draw, tables):
+        self.draw = draw
+        self.tables = tables
+        self.free = draw.shuffled(range(16))
+        self.levels = [1]
+        self.blocks = [fmt.BlockText(fmt.NO_PARENT)]
+        self.variables = []             # of each block, those in its relation rows
+        self.ratio = {}                 # of each block, whether each output column is a ratio
+        self.left = {}                  # aggregates that may still name each block
+
+    def make(self):
+        for _ in range(self.draw.one_of([0, 1, 1, 2, 2, 3, 3, 4])):
+            parents = [number for number, level in enumerate(self.levels) if level < DEEPEST_LEVEL]
+            parent = parents[-1] if self.draw.chance(50) else self.draw.one_of(parents)
+            self.blocks.append(fmt.BlockText(parent))
+            self.levels.append(self.levels[parent] + 1)
+        for number in range(len(self.blocks)):
+            self.relation_rows(number)
+        for number in reversed(range(len(self.blocks))):
+            self.left[number] = 3
+            self.output(number)
+            self.conditions(number)
+        return self.blocks
+
+    def children(self, number):
+        return [child for child, block in enumerate(self.blocks) if child > 0 and block.parent == number]
+
+    def above(self, number):
+        """Variables of proper ancestors, the parent's first."""
+        found = []
+        while number != 0:
+            number = self.blocks[number].parent
+            found += self.variables[number]
+        return found
+
+    def relation_rows(self, number):
+        self.variables.append([])
+        block, leaf = self.blocks[number], not self.children(number)
+        for _ in range(self.draw.one_of([1, 1, 1, 1, 2, 2, 3] if leaf else [0, 1, 1, 1, 1, 2, 3])):
+            table = self.draw.below(len(self.tables))
+            empty = self.draw.chance(8)
+            block.relation_rows.append((table, [
+                (fmt.EMPTY, 0) if empty else self.entry(number) for _ in range(self.tables[table][0])]))
+        if leaf and not self.variables[number]:
+            entries = block.relation_rows[-1][1]
+            entries[self.draw.below(len(entries))] = self.new_variable(number)
+
+    def entry(self, number):
+        above = self.above(number)
+        choice = self.draw.below(100)
+        if choice < 18:
+            return fmt.EMPTY, 0
+        if choice < 25:
+            return fmt.CONSTANT, random_value(self.draw)
+        if above and choice < 55:
+            return fmt.FIXED, above[0] if self.draw.chance(60) else self.draw.one_of(above)
+        own = self.variables[number]
+        if len(own) >= 3 or (own and self.draw.chance(25)):
+            return fmt.VARIABLE, self.draw.one_of(own)
+        return self.new_variable(number)
+
+    def new_variable(self, number):
+        self.variables[number].append(self.free.pop())
+        return fmt.VARIABLE, self.variables[number][-1]
+
+    def aggregate(self, number):
+        """An aggregate of a child that may still be named, or None."""
+        children = [child for child in self.children(number) if self.left[child] > 0]
+        if not children:
+            return None
+        child = self.draw.one_of(children)
+        self.left[child] -= 1
+        column = self.draw.below(len(self.ratio[child]))
+        function = self.draw.one_of([0, 2, 3] if self.ratio[child][column] else [0, 1, 2, 3, 4, 4])
+        return fmt.aggregate(function, child, 0 if function == 0 else column)
+
+    def is_ratio(self, element):
+        kind, argument = element
+        function, child, column = argument & 255, argument >> 8 & 255, argument >> 16
+        return kind == fmt.AGGREGATE and (function == 4 or (function in (2, 3) and self.ratio[child][column]))
+
+    def output(self, number):
+        output, own = self.blocks[number].output, self.variables[number]
+        for _ in range(self.draw.between(1, 3)):
+            element = self.aggregate(number) if not own or self.draw.chance(60) else None
+            if element is None and own:
+                element = fmt.VARIABLE, self.draw.one_of(own)
+            if element is not None:
+                output.append(element)
+        self.ratio[number] = [self.is_ratio(element) for element in output]
+
+    def conditions(self, number):
+        for _ in range(self.draw.one_of([0, 0, 0, 0, 1, 1, 2])):
+            left = self.aggregate(number) if self.draw.chance(55) else None
+            right = self.aggregate(number) if self.draw.chance(10) else None
+            self.blocks[number].conditions.append(
+                (self.draw.below(6), left or self.plain(number), right or self.plain(number)))
+
+    def plain(self, number):
+        own, above = self.variables[number], self.above(number)
+        if own and self.draw.chance(55):
+            return fmt.VARIABLE, self.draw.one_of(own)
+        if above and self.draw.chance(40):
+            return fmt.FIXED, self.draw.one_of(above)
+        return fmt.CONSTANT, 10**15 if self.draw.chance(3) else random_value(self.draw)
+
+
+def random_draft(draw):
+    """A question accepted as far as 11, with an admitted plan and at most MOST_TRIALS by file; mostly of some rows."""
+    while True:
+        tables = random_tables(draw)
+        draft = Draft(tables, QuestionMaker(draw, tables).make())
+        try:
+            Trials(draft.matching(), [Path(0, 0)] * len(draft.blocks), MOST_TRIALS).count()
+        except Spent:
+            continue
+        if len(draft.matching().set_of(0, {})) < 2 and draw.chance(70):
+            continue
+        draft.paths = [draw.one_of(paths[-3:]) for paths in draft.admitted()]
+        return draft
+
+
+def trials_of(draft):
+    return Trials(draft.matching(), [Path(*path) for path in draft.paths]).count()
+
+
+def random_job(draw):
+    """An accepted question, under a budget that mostly suffices and sometimes is met or missed by one."""
+    draft, choice = random_draft(draw), draw.below(10)
+    if choice < 4:
+        trials = trials_of(draft)
+        draft.budget = [trials, max(trials - 1, 0), draw.below(trials + 1), 2**64 - 1][choice]
+    return draft.job()
+
+
+def crowded_draft(draw):
+    """Sets about 256 rows: of block 0, of a wanted child, of one at a removed match, of one that nobody wants."""
+    many, side = draw.between(15, 18), draw.between(15, 17)
+    pans = [[draw.one_of([1, 2, 9])] for _ in range(draw.between(1, 3))]
+    samples = [[sample, 9] for sample in range(many)] + [[sample, 1] for sample in range(draw.below(3))]
+    tables = [(1, pans), (2, samples), (1, [[value] for value in range(side)])]
+    top = fmt.BlockText(fmt.NO_PARENT, [(0, [(fmt.VARIABLE, 0)])], [], [(fmt.VARIABLE, 0)])
+    each = fmt.BlockText(0, [(1, [(fmt.VARIABLE, 1), (fmt.FIXED, 0)]), (2, [(fmt.VARIABLE, 2)])], [],
+                         [(fmt.VARIABLE, 1), (fmt.VARIABLE, 2)])
+    if draw.chance(30):
+        top.conditions.append((1, (fmt.VARIABLE, 0), (fmt.CONSTANT, 9)))
+    if draw.chance(50):
+        top.conditions.append((2, fmt.aggregate(0, 1), (fmt.CONSTANT, 100)))
+    if draw.chance(70):
+        top.output.append(fmt.aggregate(draw.below(2), 1))
+    if draw.chance(20):
+        each.output = [(fmt.VARIABLE, 2)]
+    if draw.chance(25):
+        top.relation_rows += [(1, [(fmt.VARIABLE, 3), (fmt.EMPTY, 0)]), (2, [(fmt.VARIABLE, 4)])]
+        top.output += [(fmt.VARIABLE, 3), (fmt.VARIABLE, 4)]
+    draft = Draft(tables, [top, each])
+    draft.paths = [draw.one_of(paths) for paths in draft.admitted()]
+    return draft
+
+
+def crowded_job(draw):
+    draft = crowded_draft(draw)
+    if draw.chance(25):
+        trials = trials_of(draft)
+        draft.budget = trials - draw.below(2) if trials else 0
+    return draft.job()
+
+
+def damaged_job(draw, faults):
+    """An accepted question with this many faults, and the lowest number meant."""
+    while True:
+        draft = random_draft(draw)
+        meant = damage.inflict(draw, draft, faults)
+        if meant is not None:
+            return draft.job(), meant
+
+
+def random_jobs(seed, count):
+    """`count` jobs: of twenty, eleven accepted as far as 11, one crowded, five damaged, three changed in a byte."""
+    draw, jobs = Draw(seed), []
+    for place in range(count):
+        kind = place % 20
+        if kind < 11:
+            jobs.append(random_job(draw))
+        elif kind == 11:
+            jobs.append(crowded_job(draw))
+        elif kind < 17:
+            jobs.append(damaged_job(draw, [1, 1, 1, 2, 3][kind - 12])[0])
+        else:
+            jobs.append(damage.change_bytes(draw, random_draft(draw).job()))
+    return jobs
+
+
+def random_index_calls(seed, count):
+    """`count` calls of the index: most given, some refused by 3, 4, 7 or 2."""
+    draw, calls = Draw(seed), []
+    for _ in range(count):
+        tables = random_tables(draw)
+        draft = Draft(tables, [])
+        if draw.chance(25):
+            damage.inflict_data(draw, draft)
+        table = draw.below(len(tables) + 1) if draw.chance(30) else draw.below(len(tables))
+        columns, rows = tables[min(table, len(tables) - 1)]
+        column = draw.below(columns + 1) if draw.chance(30) else draw.below(columns)
+        length = max(0, len(rows) + draw.one_of([-1, 0, 0, 1, 5]))
+        calls.append((draft.job().data, table, column, length))
+    return calls
+
+
+def main(arguments):
+    out = sys.stdout.buffer
+    if len(arguments) == 3 and arguments[0] == "jobs":
+        out.write(fmt.stream_bytes(random_jobs(int(arguments[1]), int(arguments[2]))))
+    elif len(arguments) == 3 and arguments[0] == "indexes":
+        out.write(fmt.index_stream_bytes(random_index_calls(int(arguments[1]), int(arguments[2]))))
+    elif arguments == ["limits"]:
+        out.write(fmt.stream_bytes([job for _, job, _ in limits.limit_jobs()]))
+    else:
+        sys.exit("usage: generate.py jobs SEED COUNT | generate.py indexes SEED COUNT | generate.py limits")
+
+
+if __name__ == "__main__":
+    main(sys.argv[1:])
