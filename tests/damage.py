@@ -221,9 +221,25 @@ def ratio_summed(draw, draft):
     found = [place for place in places(draft, (fmt.AGGREGATE,)) if element_at(place)[1] & 255 in (2, 3)
              and ratio.get((element_at(place)[1] >> 8 & 255, element_at(place)[1] >> 16))]
     if not found:
-        return False
+        return ratio_made_and_summed(draw, draft)
     place = draw.one_of(found)
     put_element(place, (fmt.AGGREGATE, element_at(place)[1] & ~255 | draw.one_of([1, 4])))
+    return True
+
+
+def ratio_made_and_summed(draw, draft):
+    """A child made to give the average of its own child, and summed in a condition of its parent."""
+    named = [element_at(place)[1] >> 8 & 255 for place in places(draft, (fmt.AGGREGATE,))]
+    blocks = draft.blocks
+    chains = [(blocks[child].parent, child, below) for below, block in enumerate(blocks) for child in [block.parent]
+              if below > 0 and 0 < child < below and blocks[child].parent < child
+              and named.count(child) < 3 and named.count(below) < 3]
+    if not chains:
+        return False
+    parent, child, below = draw.one_of(chains)
+    if not add_condition(draw, draft, fmt.aggregate(draw.one_of([1, 4]), child), (fmt.CONSTANT, 0), number=parent):
+        return False
+    blocks[child].output[:1] = [fmt.aggregate(4, below)]
     return True
 
 

@@ -25,3 +25,9 @@ pub mod ScanLaws
 pub mod LevelLaws
 pub mod SizeLaws
 pub mod WordLaws
+pub mod Opens
+pub mod ExampleBytes
+pub mod Examples
+pub mod MoreExamples
+pub mod EvaluatedLaws
+pub mod EvaluatedSizes

@@ -64,6 +64,10 @@ module _ (d : List ℤ) (qs : List ℕ) where
         (any-of (λ m. any (largeFrom n m) (children q k′)) b (passing d (blockAt q k′) b′) i
           (any-of (largeFrom n b) k (children q k′) j t)))
 
+  pub evaluated-large : (n k : ℕ) (b : Binding) → Evaluated d q n k b → T (largeBelow n d q k b) → T (tooLarge d q)
+  unfolding largeFrom
+  evaluated-large n k b e t = up n k b e (or-right (ltb limit (length (setOf n d q k b))) (largeBelow n d q k b) t)
+
   pub of-overlarge : Overlarge d qs → T (tooLarge d q)
   unfolding largeFrom
   of-overlarge o =

@@ -10,7 +10,7 @@ use lib.Dec.{T, T-not, not-T, eqb, ltb, leb→le}
 use lib.ListN.{length, getD, drop, take}
 use lib.IntN.{ℤ}
 use Rattle.model.specs.Checks.{countsFit, allThere}
-use Rattle.model.specs.Format.{Parser, after, _>>=_, give, fail, only, times, byte, number64, eight, signed, aggregateIs, elementOf, element, rowKinds, relation, condition, output}
+use Rattle.model.specs.Format.{outputKinds, Parser, after, _>>=_, give, fail, only, times, byte, number64, eight, signed, aggregateIs, elementOf, element, rowKinds, relation, condition, output}
 use Rattle.model.specs.Lists.{all, any, All}
 use Rattle.model.specs.Question.{Element, empty, constant, variable, fixed, aggregate, RelationRow, Condition, Block, noBlock, blockAt, isAggregate, inRows}
 use Rattle.model.specs.Records.{Mark, BK, RW, CD, OL, EN, marked, many, one, block, ends, question, blocksOf, questionOf}
@@ -19,6 +19,7 @@ use Rattle.model.proofs.Accepted.{sound}
 use Rattle.model.proofs.Sound.{Sound}
 use Rattle.model.proofs.Tests.{and-left, and-right}
 use Rattle.model.proofs.RefusalLaws.{QuestionPasses}
+use Rattle.model.proofs.SizeLaws.{OutputKind}
 
 module _ {A : Type 0} where
   -- what a reader gives has P
@@ -57,62 +58,98 @@ Plain e = T (not (isAggregate e))
 abbrev PlainRow : RelationRow → Type 0
 PlainRow w = All Plain (w .entries)
 
-abbrev PlainBlock : Block → Type 0
-PlainBlock k = All PlainRow (k .relations)
+-- what the kinds of its records leave of a block
+pub record Kinds (k : Block) : Type 0 where
+  pub rows : All PlainRow (k .relations)
+  pub outputs : All OutputKind (k .outputs)
 
-only-has : (t : Bool) (k : ℕ) (bs : List ℕ) → Has (λ k′. (k ≡ k′) × T t) (only t k bs)
+only-has : {A : Type 0} (t : Bool) (a : A) (bs : List ℕ) → Has (λ a′. (a ≡ a′) × T t) (only t a bs)
 unfolding only
-only-has true k bs = (refl, tt)
-only-has false k bs = tt
+only-has true a bs = (refl, tt)
+only-has false a bs = tt
 
-element-of : (k : ℕ) (xs bs : List ℕ) → T (rowKinds k) → Has Plain (elementOf k xs bs)
-unfolding elementOf give fail only
-element-of zero xs bs t = go (eqb (number64 xs) 0)
-  where
-    go : (t : Bool) → Has Plain (only t empty bs)
-    go true = tt
-    go false = tt
-element-of (suc zero) xs bs t = tt
-element-of (suc (suc zero)) xs bs t = tt
-element-of (suc (suc (suc zero))) xs bs t = tt
-element-of (suc (suc (suc (suc zero)))) xs bs t = absurd t
-element-of (suc (suc (suc (suc (suc k))))) xs bs t = tt
+only-row : (t : Bool) (bs : List ℕ) → Has Plain (only t empty bs)
+unfolding only
+only-row true bs = tt
+only-row false bs = tt
 
-element-has : (bs : List ℕ) → Has Plain (element rowKinds bs)
+row-element : (k : ℕ) (xs bs : List ℕ) → T (rowKinds k) → Has Plain (elementOf k xs bs)
+unfolding elementOf give fail
+row-element zero xs bs t = only-row (eqb (number64 xs) 0) bs
+row-element (suc zero) xs bs t = tt
+row-element (suc (suc zero)) xs bs t = tt
+row-element (suc (suc (suc zero))) xs bs t = tt
+row-element (suc (suc (suc (suc zero)))) xs bs t = absurd t
+row-element (suc (suc (suc (suc (suc k))))) xs bs t = tt
+
+only-output : (t : Bool) (f k c : ℕ) (bs : List ℕ) → Has OutputKind (only t (aggregate f k c) bs)
+unfolding only
+only-output true f k c bs = tt
+only-output false f k c bs = tt
+
+output-element : (k : ℕ) (xs bs : List ℕ) → T (outputKinds k) → Has OutputKind (elementOf k xs bs)
+unfolding elementOf give fail aggregateIs
+output-element zero xs bs t = absurd t
+output-element (suc zero) xs bs t = absurd t
+output-element (suc (suc zero)) xs bs t = tt
+output-element (suc (suc (suc zero))) xs bs t = absurd t
+output-element (suc (suc (suc (suc zero)))) xs bs t = only-output _ (getD xs 0 0) (getD xs 1 0) (getD xs 2 0) bs
+output-element (suc (suc (suc (suc (suc k))))) xs bs t = tt
+
+element-has : (kinds : ℕ → Bool) (P : Element → Type 0)
+  → ((k : ℕ) (xs bs : List ℕ) → T (kinds k) → Has P (elementOf k xs bs)) → (bs : List ℕ) → Has P (element kinds bs)
 unfolding element _>>=_
-element-has bs =
-    after-has (λ k. Unit {0}) Plain (byte bs) _ (any-has (byte bs)) (λ k u cs.
-      after-has (λ k′. (k ≡ k′) × T (rowKinds k)) Plain (only (rowKinds k) k cs) _ (only-has (rowKinds k) k cs) (λ k′ h ds.
-        after-has (λ xs. Unit {0}) Plain (eight ds) _ (any-has (eight ds)) (λ xs v es. element-of k′ xs es (subst (λ z. T (rowKinds z)) (h .0) (h .1)))))
+element-has kinds P each bs =
+  after-has (λ k. Unit {0}) P (byte bs) _ (any-has (byte bs)) (λ k u cs.
+    after-has (λ k′. (k ≡ k′) × T (kinds k)) P (only (kinds k) k cs) _ (only-has (kinds k) k cs) (λ k′ h ds.
+      after-has (λ xs. Unit {0}) P (eight ds) _ (any-has (eight ds)) (λ xs v es.
+        each k′ xs es (subst (λ z. T (kinds z)) (h .0) (h .1)))))
 
 relation-has : (bs : List ℕ) → Has PlainRow (relation bs)
 unfolding relation _>>=_ give
 relation-has bs =
-    after-has (λ k. Unit {0}) PlainRow (byte bs) _ (any-has (byte bs)) (λ t u cs.
-      after-has (λ k. Unit {0}) PlainRow (byte cs) _ (any-has (byte cs)) (λ n u ds.
-        after-has (All Plain) PlainRow (times n (element rowKinds) ds) _ (times-has Plain n (element rowKinds) ds element-has) (λ es h fs. h)))
+  after-has (λ k. Unit {0}) PlainRow (byte bs) _ (any-has (byte bs)) (λ t u cs.
+    after-has (λ k. Unit {0}) PlainRow (byte cs) _ (any-has (byte cs)) (λ n u ds.
+      after-has (All Plain) PlainRow (times n (element rowKinds) ds) _
+        (times-has Plain n (element rowKinds) ds (element-has rowKinds Plain row-element)) (λ es h fs. h)))
 
-block-has : (n : ℕ) (bs : List ℕ) → Has PlainBlock (block n bs)
+output-has : (bs : List ℕ) → Has (All OutputKind) (output bs)
+unfolding output _>>=_
+output-has bs =
+  after-has (λ k. Unit {0}) (All OutputKind) (byte bs) _ (any-has (byte bs)) (λ n u cs.
+    times-has OutputKind n (element outputKinds) cs (element-has outputKinds OutputKind output-element))
+
+one-has : {A : Type 0} (P : A → Type 0) (m : Mark) (r : Parser A) (bs : List ℕ)
+  → ((cs : List ℕ) → Has P (r cs)) → Has P (one m r bs)
+unfolding one
+one-has P m r bs h = go (marked m bs) refl
+  where
+    go : (t : Bool) → marked m bs ≡ t → Has P (one m r bs)
+    go true e = rw (e, one) (h (drop 2 bs))
+    go false e = rw (e, one) tt
+
+block-has : (n : ℕ) (bs : List ℕ) → Has Kinds (block n bs)
 unfolding block _>>=_ give
 block-has n bs =
-    after-has (λ k. Unit {0}) PlainBlock (byte bs) _ (any-has (byte bs)) (λ p u cs.
-      after-has (All PlainRow) PlainBlock (many n RW relation cs) _ (many-has PlainRow n RW relation cs relation-has) (λ ws h ds.
-        after-has (λ k. Unit {0}) PlainBlock (many n CD condition ds) _ (any-has (many n CD condition ds)) (λ xs u es.
-          after-has (λ k. Unit {0}) PlainBlock (one OL output es) _ (any-has (one OL output es)) (λ os u fs. h))))
+  after-has (λ k. Unit {0}) Kinds (byte bs) _ (any-has (byte bs)) (λ p u cs.
+    after-has (All PlainRow) Kinds (many n RW relation cs) _ (many-has PlainRow n RW relation cs relation-has) (λ ws h ds.
+      after-has (λ k. Unit {0}) Kinds (many n CD condition ds) _ (any-has (many n CD condition ds)) (λ xs u es.
+        after-has (All OutputKind) Kinds (one OL output es) _ (one-has (All OutputKind) OL output es output-has) (λ os v fs.
+          record { rows = h; outputs = v }))))
 
 abbrev Has? : (List Block → Type 0) → Option (List Block) → Type 0
 Has? P none = Unit {0}
 Has? P (some q) = P q
 
-question-has : (bs : List ℕ) → Has? (All PlainBlock) (question bs)
+question-has : (bs : List ℕ) → Has? (All Kinds) (question bs)
 unfolding question
-question-has bs = go (many (length bs) BK (block (length bs)) bs) refl (many-has PlainBlock (length bs) BK (block (length bs)) bs (block-has (length bs)))
+question-has bs = go (many (length bs) BK (block (length bs)) bs) refl (many-has Kinds (length bs) BK (block (length bs)) bs (block-has (length bs)))
   where
-    go : (o : Option (List Block × List ℕ)) → many (length bs) BK (block (length bs)) bs ≡ o → Has (All PlainBlock) o → Has? (All PlainBlock) (question bs)
+    go : (o : Option (List Block × List ℕ)) → many (length bs) BK (block (length bs)) bs ≡ o → Has (All Kinds) o → Has? (All Kinds) (question bs)
     go none e h = rw (e, question) tt
     go (some x) e h = rw (e, question) (fin (marked EN (x .1) && ends (drop 2 (x .1))))
       where
-        fin : (t : Bool) → Has? (All PlainBlock) (elim t as (λ _. Option (List Block)) [ true ↦ some (x .0) | false ↦ none ])
+        fin : (t : Bool) → Has? (All Kinds) (elim t as (λ _. Option (List Block)) [ true ↦ some (x .0) | false ↦ none ])
         fin true = h
         fin false = tt
 
@@ -131,17 +168,17 @@ unfolding inRows any
 plain-rows [] u = tt
 plain-rows (w ∷ ws) u = rw (none-plain (w .entries) (u .0)) (plain-rows ws (u .1))
 
-plain-at : (q : List Block) (j : ℕ) → All PlainBlock q → T (not (inRows isAggregate (blockAt q j .relations)))
+plain-at : (q : List Block) (j : ℕ) → All Kinds q → T (not (inRows isAggregate (blockAt q j .relations)))
 unfolding inRows any
 plain-at [] j u = tt
-plain-at (k ∷ q) zero u = plain-rows (k .relations) (u .0)
+plain-at (k ∷ q) zero u = plain-rows (k .relations) (u .0 .rows)
 plain-at (k ∷ q) (suc j) u = plain-at q j (u .1)
 
-kinds-of : (bs : List ℕ) → All PlainBlock (questionOf bs)
+kinds-of : (bs : List ℕ) → All Kinds (questionOf bs)
 unfolding questionOf
 kinds-of bs = go (question bs) (question-has bs)
   where
-    go : (o : Option (List Block)) → Has? (All PlainBlock) o → All PlainBlock (blocksOf o)
+    go : (o : Option (List Block)) → Has? (All Kinds) o → All Kinds (blocksOf o)
     go none h = tt
     go (some q) h = h
 
@@ -153,3 +190,11 @@ passed-sound d qs p =
 pub passed-some : (d : List ℤ) (qs : List ℕ) → QuestionPasses d qs → 0 < length (questionOf qs)
 unfolding countsFit
 passed-some d qs p = leb→le 1 (length (questionOf qs)) (let a = p .counts in search (and-left, and-right))
+
+pub passed-outputs : (qs : List ℕ) (k : ℕ) → All OutputKind (blockAt (questionOf qs) k .outputs)
+passed-outputs qs k = go (questionOf qs) k (kinds-of qs)
+  where
+    go : (q : List Block) (k : ℕ) → All Kinds q → All OutputKind (blockAt q k .outputs)
+    go [] k u = tt
+    go (b ∷ q) zero u = u .0 .outputs
+    go (b ∷ q) (suc k) u = go q k (u .1)

@@ -1,0 +1,248 @@
+"""Checks the stored expected outputs with the evaluator, and the evaluator itself. One line for each check; status 1
+and what differs if any fails. `check.py --write` rewrites the generated files under stored/ instead; the outputs
+under questions/ are written by hand and never rewritten.
+"""
+
+import itertools
+import sys
+from pathlib import Path as FilePath
+
+import edges
+import evaluator
+import format as fmt
+import generate
+import limits
+import notation
+from draw import Draw
+from naive.matching import Matching
+from naive.plan import Path
+from naive.question import read_question
+from naive.tables import tables_of
+from naive.trials import Trials
+from sql import Sql, TooLong
+
+HERE = FilePath(__file__).resolve().parent
+QUESTIONS = HERE / "questions"
+STORED = HERE / "stored"
+JOBS_SEED, JOBS = 4747, 260
+INDEX_SEED, INDEX_CALLS = 474, 60
+MOST_PLANS = 24
+
+
+class Differs(Exception):
+    """What differs."""
+
+
+def same(what, got, wanted):
+    if got != wanted:
+        raise Differs(f"{what}\n  got    {shorten(got)}\n  wanted {shorten(wanted)}")
+
+
+def shorten(thing):
+    text = repr(thing)
+    return text if len(text) <= 400 else text[:400] + " .."
+
+
+def question_jobs():
+    """The jobs of the question files, by name."""
+    return {path.stem: notation.compile_file(path) for path in sorted(QUESTIONS.glob("*.abe"))}
+
+
+def stored_files():
+    """The generated files: name and bytes."""
+    streams = {"questions": list(question_jobs().values()),
+               "limits": [job for _, job, _ in limits.limit_jobs(long=False)],
+               "random": generate.random_jobs(JOBS_SEED, JOBS)}
+    for name, jobs in streams.items():
+        yield f"{name}.stream", fmt.stream_bytes(jobs)
+        yield f"{name}.answers", "".join(evaluator.answer_text(evaluator.run_job(job)) for job in jobs).encode()
+    calls = generate.random_index_calls(INDEX_SEED, INDEX_CALLS)
+    yield "indexes.stream", fmt.index_stream_bytes(calls)
+    yield "indexes.answers", "".join(map(evaluator.index_text, calls)).encode()
+    for name, job, text in edges.listing_jobs():
+        yield f"listing/{name}.job", job
+        yield f"listing/{name}.out", text.encode()
+
+
+def numbers_of(answers):
+    """The numbers in a text of answers."""
+    lines, numbers = iter(answers.decode().splitlines()), set()
+    for line in lines:
+        number, rows, _, _ = map(int, line.split())
+        numbers.add(number)
+        for _ in range(rows):
+            next(lines)
+    return numbers
+
+
+def check_questions():
+    """Every question file against its output, by the figures and by the listing."""
+    jobs = question_jobs()
+    for name, job in jobs.items():
+        wanted = (QUESTIONS / f"{name}.out").read_text()
+        answer = evaluator.run_job(job)
+        same(f"questions/{name}", evaluator.answer_text(answer), wanted)
+        head, _, rows = wanted.partition("\n")
+        number, figures = head.split(" ", 1)
+        same(f"listing of questions/{name}", evaluator.listing_text(answer),
+             f"ok {figures}\n{rows}" if number == "0" else f"no {number}\n")
+    same("outputs without a question", sorted(path.stem for path in QUESTIONS.glob("*.out")), sorted(jobs))
+    return f"{len(jobs)} questions"
+
+
+def check_edges():
+    """Buffers' words, the index, the listing's refusals."""
+    cases = list(edges.all_cases())
+    for what, got, wanted in cases:
+        same(what, got, wanted)
+    return f"{len(cases)} edges"
+
+
+def check_limits():
+    """Each limit, and one past it, by its number; J's figures in all bytes."""
+    jobs = list(limits.limit_jobs())
+    for what, job, number in jobs:
+        same(f"limit: {what}", evaluator.run_job(job).number, number)
+    largest = evaluator.run_job(limits.largest_numerator())
+    same("the largest numerator", (largest.trials, largest.row_list), (768, [((16_777_216_000_000, 1),)]))
+    return f"{len(jobs)} limits"
+
+
+def check_faults():
+    """Damaged jobs bring the lowest number meant."""
+    draw, met = Draw(11), {}
+    for place in range(700):
+        faults = [1, 1, 1, 1, 2, 2, 3][place % 7]
+        job, meant = generate.damaged_job(draw, faults)
+        same(f"damaged job {place}", evaluator.run_job(job).number, meant)
+        met[meant] = met.get(meant, 0) + 1
+    same("numbers brought by faults", sorted(met), list(range(3, 12)))
+    return "700 damaged jobs"
+
+
+def check_stored():
+    """The stored streams and answers are those of the seed and the evaluator; every number is met."""
+    files = dict(stored_files())
+    for name, wanted in files.items():
+        path = STORED / name
+        if not path.exists():
+            raise Differs(f"stored/{name} is missing")
+        same(f"stored/{name}", path.read_bytes(), wanted)
+    present = {str(path.relative_to(STORED)) for path in STORED.rglob("*") if path.is_file()}
+    same("files under stored/", sorted(present), sorted(files))
+    same("numbers met in limits.stream", numbers_of(files["limits.answers"]), {*range(14)} - {8, 9})
+    same("numbers met in random.stream", numbers_of(files["random.answers"]), {0, *range(3, 14)})
+    return f"{len(files)} stored files, {sum(map(len, files.values())):,} bytes"
+
+
+def check_round_trip():
+    """Bytes to notation and back, over accepted questions with any plan, budget and buffers."""
+    draw = Draw(22)
+    jobs = list(question_jobs().values()) + [generate.random_job(draw) for _ in range(300)]
+    jobs += [job for _, job, number in limits.limit_jobs(long=False) if number in (0, 8, 9, 10, 11, 12, 13)]
+    shown = 0
+    for place, job in enumerate(jobs):
+        try:
+            text = notation.show(job)
+        except notation.NotExpressible:
+            if evaluator.run_job(job).number in (3, 5, 7):
+                continue
+            raise
+        same(f"job {place} shown and compiled", notation.compile_text(text), job)
+        shown += 1
+    return f"{shown} jobs"
+
+
+def check_plans():
+    """Demand 3: all admitted plans give the same rows and the same refusal by 13, and file to index to merging never
+    raises the count; the count itself is met as a budget and missed by one."""
+    draw, plans = Draw(33), 0
+    for place in range(250):
+        draft = generate.crowded_draft(draw) if place % 25 == 0 else generate.random_draft(draw)
+        matching, counts, outcomes = draft.matching(), {}, set()
+        for paths in itertools.islice(itertools.product(*draft.admitted()), MOST_PLANS):
+            counts[paths] = Trials(matching, [Path(*path) for path in paths]).count()
+            draft.paths = list(paths)
+            outcomes.add(check_plan(draft, counts[paths]))
+        same(f"outcomes of question {place} under its plans", len(outcomes), 1)
+        check_counts(place, counts)
+        plans += len(counts)
+    return f"{plans} plans of 250 questions"
+
+
+def check_plan(draft, trials):
+    """One plan at three budgets; its number and rows at the first."""
+    job = draft.job()
+    answer = evaluator.run(job.data, job.question, job.plan, 2**64 - 1)
+    same("trials in full", answer.trials, trials)
+    exact = evaluator.run(job.data, job.question, job.plan, trials)
+    same("budget met", exact[:5], answer[:5])
+    if trials > 0:
+        missed = evaluator.run(job.data, job.question, job.plan, trials - 1)
+        same("budget missed by one", missed[:5], (12, 0, 0, trials - 1, []))
+    return answer.number, tuple(answer.row_list)
+
+
+def check_counts(place, counts):
+    """No block's step from file to index, or from index to merging on the same column, raises the count."""
+    for paths, count in counts.items():
+        for number, (path, column) in enumerate(paths):
+            for better in {0: [(1, c) for c in range(8)], 1: [(2, column)], 2: []}[path]:
+                other = paths[:number] + (better,) + paths[number + 1:]
+                if counts.get(other, 0) > count:
+                    raise Differs(f"question {place}: {other} has {counts[other]} trials, {paths} {count}")
+
+
+def check_sqlite():
+    """SQLite's rows, trials and largest set against the evaluator's."""
+    draw, questions, plans = Draw(44), 0, 0
+    for place in range(400):
+        draft = generate.crowded_draft(draw) if place % 10 == 0 else generate.random_draft(draw)
+        job = draft.job()
+        matching = Matching(read_question(job.question), tables_of(job.data))
+        sql = Sql(matching.blocks, matching.tables)
+        try:
+            same(f"rows of question {place}", sorted(matching.set_of(0, {})), sql.rows())
+            for paths in [tuple(draft.paths), tuple([(0, 0)] * len(matching.blocks))]:
+                counted = Trials(matching, [Path(*path) for path in paths]).count()
+                same(f"trials of question {place} under {paths}", counted, sql.trials(paths))
+                plans += 1
+            same(f"too large, question {place}", matching.too_large(), sql.largest_set() > 256)
+            questions += 1
+        except TooLong:
+            continue
+        finally:
+            sql.close()
+    if questions < 300:
+        raise Differs(f"only {questions} questions were short enough for SQLite")
+    return f"{questions} questions, {plans} plans"
+
+
+CHECKS = [check_questions, check_edges, check_limits, check_faults, check_stored, check_round_trip, check_plans,
+          check_sqlite]
+
+
+def write():
+    """Rewrites the generated files."""
+    for name, content in stored_files():
+        path = STORED / name
+        path.parent.mkdir(parents=True, exist_ok=True)
+        path.write_bytes(content)
+        print(f"wrote stored/{name}, {len(content)} bytes")
+
+
+def main(arguments):
+    if arguments == ["--write"]:
+        return write()
+    if arguments:
+        sys.exit("usage: check.py | check.py --write")
+    for check in CHECKS:
+        try:
+            print(f"{check.__name__[6:]}: {check()} agree", flush=True)
+        except Differs as difference:
+            print(f"{check.__name__[6:]} DIFFERS: {difference}")
+            sys.exit(1)
+
+
+if __name__ == "__main__":
+    main(sys.argv[1:])
