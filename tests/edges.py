@@ -1,4 +1,5 @@
-"""Edges worked out by hand: the words of every buffer, the index by itself, jobs that the listing refuses.
+"""Edges worked out by hand: the words of every buffer, the index by itself, jobs that the listing refuses, errors in
+the notation.
 
 Each case is (what, what was got, what the paper says).
 """
@@ -6,6 +7,7 @@ Each case is (what, what was got, what the paper says).
 import evaluator
 import format as fmt
 import limits
+import notation
 
 J = fmt.Job(fmt.data_words(limits.J_TABLES), fmt.question_bytes(limits.j_blocks()), fmt.plan_bytes([(0, 0), (2, 1)]))
 J_LISTING = "ok 3 2 8\n1 1823/2\n2 905\n3 0\n"
@@ -121,7 +123,47 @@ def listing_cases():
         yield f"listing, {name}", evaluator.listing(job), text
 
 
+TEXT = """table pans (pan)
+  1
+block top
+  pans (pan = P)
+  give P
+"""
+
+
+def notation_cases():
+    """Errors in the notation are told with their line."""
+    for old, new, wanted in [
+            ("  1", "  1 2", "line 2: 2 values, but the table has 1 columns"),
+            ("  1", "  one", "line 2: a relation row stands in a block only"),
+            ("  1", "  99999999999", "line 2: a value 99999999999 is not from -2147483648 to 2147483647"),
+            ("pans (pan = P)", "pots (pan = P)", "line 4: no table pots above"),
+            ("pan = P", "pin = P", "line 4: table pans has no column pin"),
+            ("pan = P", "pan = P, pan = Q", "line 4: column pan twice"),
+            ("pan = P", "pan P", "line 4: '=' expected, not 'P'"),
+            ("pan = P", "pan = $", "line 4: cannot read '$)'"),
+            ("pan = P)", "pan = P", "line 4: ')' expected at the end of the line"),
+            ("give P", "give 5", "line 5: give takes variables and aggregates"),
+            ("give P", "give ave(each.brix)", "line 5: no block each"),
+            ("give P", "give P Q", "line 5: ',' expected, not 'Q'"),
+            ("give P", "where P ~ 5", "line 5: cannot read '~ 5'"),
+            ("give P", "where P 5", "line 5: an operator expected, not '5'"),
+            ("  give P\n", "", "line 3: this block has no give"),
+            ("give P", "give P\nblock each", "line 6: the first block has no parent, and every other block has one"),
+            ("give P", "give P\nblock each in tip", "line 6: no block tip above"),
+            ("give P", "give P\nplan top index brix", "line 6: table pans has no column brix"),
+            ("give P", "give P\nplan tip file", "line 6: no block tip"),
+            ("give P", "give P\nplan hex 5z", "line 6: 5z is not bytes in hexadecimal digits"),
+            ("give P", "give P\nbudget -1", "line 6: the budget -1 is not from 0 to 18446744073709551615")]:
+        try:
+            got = notation.compile_text(TEXT.replace(old, new, 1))
+        except notation.NotationError as error:
+            got = str(error)
+        yield f"notation, {new!r}", got, wanted
+
+
 def all_cases():
+    yield from notation_cases()
     yield from buffer_cases()
     yield from index_cases()
     yield from listing_cases()

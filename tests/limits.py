@@ -123,6 +123,65 @@ def number_limits():
         yield f"constant {value} in RW", job(blocks=[block(rows=[(0, [var(0)]), (0, [const(value)])])]), number
 
 
+def kind_limits():
+    """Every kind in every record; what is well formed goes on to its own number."""
+    numbers = {"RW": {0: 0, 1: 0, 2: 0, 3: 8}, "CD": {1: 0, 2: 0, 3: 8, 4: 7}, "OL": {2: 0, 4: 7}}
+    for kind in [0, 1, 2, 3, 4, 5, 16, 255]:
+        element = (kind, 1 << 8 if kind == fmt.AGGREGATE else 0)
+        yield f"kind {kind} in RW", job(blocks=[block(rows=[(0, [var(0)]), (0, [element])])]), numbers["RW"].get(kind, 5)
+        yield f"kind {kind} in CD", job(blocks=[block(conditions=[(0, const(0), element)])]), numbers["CD"].get(kind, 5)
+        yield f"kind {kind} in OL", job(blocks=[block(output=[var(0), element])]), numbers["OL"].get(kind, 5)
+
+
+def record_limits():
+    """Codes, bytes that must be 0, and the order of records."""
+    for operator, number in [(5, 0), (6, 5), (255, 5)]:
+        yield f"operator {operator}", job(blocks=[block(conditions=[(operator, var(0), const(0))])]), number
+    for what, argument, number in [("function 4", 4 | 1 << 8, 0), ("function 5", 5 | 1 << 8, 5),
+                                   ("byte 3", 1 | 1 << 8 | 1 << 24, 5), ("byte 7", 1 | 1 << 8 | 1 << 56, 5)]:
+        blocks = j_blocks()
+        blocks[0].output = [(fmt.AGGREGATE, argument)]
+        yield f"aggregate, {what}", job(J_TABLES, blocks), number
+    for argument in (1, 1 << 63):
+        yield f"empty, {argument}", job(blocks=[block(rows=[(0, [var(0)]), (0, [(fmt.EMPTY, argument)])])]), 5
+    opening, row = b"BK\xff", fmt.relation_row_bytes(0, [var(0)])
+    condition, output = fmt.condition_bytes(0, var(0), const(1)), b"OL\1" + fmt.element_bytes(var(0))
+    for what, records, number in [
+            ("in order", [opening, row, condition, output, b"EN"], 0), ("no OL", [opening, row, b"EN"], 5),
+            ("CD before RW", [opening, condition, row, output, b"EN"], 5), ("no BK", [row, output, b"EN"], 5),
+            ("OL before CD", [opening, row, output, condition, b"EN"], 5), ("no EN", [opening, row, output], 5),
+            ("RW among CD", [opening, row, condition, row, condition, output, b"EN"], 5),
+            ("OL twice", [opening, row, output, output, b"EN"], 5), ("EN first", [b"EN", opening, row, output], 5),
+            ("a byte after", [opening, row, output, b"EN\0"], 5), ("half a mark", [opening, row, output, b"E"], 5),
+            ("small letters", [opening, row, b"ol" + output[2:], b"EN"], 5)]:
+        yield f"records, {what}", fmt.Job(fmt.data_words(PANS), b"".join(records), fmt.plan_bytes([(0, 0)])), number
+
+
+def variable_limits():
+    """Where variables and fixed variables may stand (8), and which columns may be summed (9)."""
+    def family(*last, output=None):
+        """Blocks 0 > 1 > 2 and 0 > 3, each with the variable of its number; the last with more records."""
+        blocks = [block(parent, [(0, [var(own)])], output=[var(own)])
+                  for own, parent in enumerate([fmt.NO_PARENT, 0, 1, 0])]
+        blocks[2].conditions += last
+        blocks[2].output = output or blocks[2].output
+        return job(blocks=blocks)
+    for what, element, number in [
+            ("own", var(2), 0), ("of the parent", var(1), 8), ("of no block", var(9), 8), ("of an uncle", var(3), 8),
+            ("fixed, own", fixed(2), 8), ("fixed, of the parent", fixed(1), 0), ("fixed, of the grandparent", fixed(0), 0),
+            ("fixed, of an uncle", fixed(3), 8), ("fixed, of no block", fixed(9), 8)]:
+        yield f"variable {what}", family((0, element, const(1))), number
+    yield "variable of no relation row put out", family(output=[var(9)]), 8
+    siblings = [block(), *(block(0, [(0, [var(own)])], output=[var(own)]) for own in (1, 1))]
+    yield "variable in two siblings", job(blocks=siblings), 8
+    yield "variable in parent and child", job(blocks=[block(), block(0)]), 8
+    for function, refused in [(0, 0), (1, 9), (2, 0), (3, 0), (4, 9)]:
+        for middle, number in [(1, 0), (3, 0), (4, refused)]:
+            blocks = [block(rows=[], output=[fmt.aggregate(function, 1)]),
+                      block(0, [], output=[fmt.aggregate(middle, 2)]), block(1)]
+            yield f"{fmt.FUNCTIONS[function]} of {fmt.FUNCTIONS[middle]}", job(blocks=blocks), number
+
+
 def reference_limits():
     """Tables, entries, parents, columns: the last that is there and the first that is not."""
     for table, number in [(1, 0), (2, 7), (255, 7)]:
@@ -207,6 +266,6 @@ def patched(given, patch):
 
 def limit_jobs(long=True):
     """All of them; `long` with those of 65,508 and 65,540 bytes of data."""
-    for some in [data_limits, count_limits, number_limits, reference_limits, plan_limits, set_limits, budget_limits,
-                 buffer_limits] + [long_data_limits] * long:
+    for some in [data_limits, count_limits, number_limits, kind_limits, record_limits, variable_limits,
+                 reference_limits, plan_limits, set_limits, budget_limits, buffer_limits] + [long_data_limits] * long:
         yield from some()

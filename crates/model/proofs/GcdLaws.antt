@@ -1,8 +1,9 @@
 -- Laws of the greatest common divisor by Euclid; equal ratios in lowest terms have equal denominators.
-use Prim.Native.Nat.{ℕ, zero, suc, _+_, _*_, _-_, _/_, _%_, _<_, _≤_, _∣_}
-use native.Mathlib.Nat.{dvd-refl, dvd-zero, dvd-mod-iff, mod-lt, mod-def, mul-div-mul-left, mul-sub, mul-div-cancel', mul-pos, eq-of-mul-eq-mul-left, pos-of-dvd-of-pos, mul-assoc, mul-comm, mul-zero, mul-le-mul-left}
+use Prim.Native.Nat.{ℕ, zero, suc, _*_, _-_, _/_, _%_, _<_, _∣_}
+use native.Mathlib.Nat.{dvd-refl, dvd-zero, dvd-mod-iff, mod-lt, mod-def, mul-div-mul-left, mul-sub, mul-pos}
+use native.Mathlib.Nat.{mul-assoc, mul-comm, mul-zero, mul-le-mul-left}
 use native.Mathlib.Omega.{arith}
-use mathlib.Core.Path.{_≡_, refl, sym, _∙_, ap, ap₂, subst}
+use mathlib.Core.Path.{_≡_, refl, sym, _∙_, ap, ap₂}
 use Rattle.model.specs.Value.{gcdIn, gcd}
 
 step : (n a b : ℕ) → 0 < b → gcdIn (suc n) a b ≡ gcdIn n b (a % b)
@@ -25,7 +26,9 @@ gcd-dvd (suc n) a (suc b) h =
     (dvd-mod-iff (gcdIn n (suc b) (a % suc b)) (r .0) .0 (r .1), r .0)
 
 mod-scale : (k a b : ℕ) → 0 < k → (k * a) % (k * b) ≡ k * (a % b)
-mod-scale k a b h = mod-def (k * a) (k * b) ∙ ap (λ t. k * a - k * b * t) (mul-div-mul-left a b h) ∙ ap (λ t. k * a - t) (mul-assoc k b (a / b)) ∙ sym (mul-sub k a (b * (a / b))) ∙ ap (λ t. k * t) (sym (mod-def a b))
+mod-scale k a b h = mod-def (k * a) (k * b) ∙ ap (λ t. k * a - k * b * t) (mul-div-mul-left a b h)
+    ∙ ap (λ t. k * a - t) (mul-assoc k b (a / b)) ∙ sym (mul-sub k a (b * (a / b)))
+    ∙ ap (λ t. k * t) (sym (mod-def a b))
 
 gcd-scale : (k n m a b : ℕ) → 0 < k → b < n → k * b < m → gcdIn m (k * a) (k * b) ≡ k * gcdIn n a b
 unfolding gcdIn
@@ -35,7 +38,8 @@ gcd-scale k (suc n) zero a (suc b) h l u = absurd (omega arith)
 gcd-scale k (suc n) (suc m) a (suc b) h l u =
     let p : 0 < k * suc b = mul-pos h (omega arith) in
     let r : a % suc b < suc b = mod-lt a (omega arith) in
-    step m (k * a) (k * suc b) p ∙ ap (λ t. gcdIn m (k * suc b) t) (mod-scale k a (suc b) h) ∙ gcd-scale k n m (suc b) (a % suc b) h (omega arith) (omega (arith, mul-le-mul-left k r))
+    step m (k * a) (k * suc b) p ∙ ap (λ t. gcdIn m (k * suc b) t) (mod-scale k a (suc b) h)
+    ∙ gcd-scale k n m (suc b) (a % suc b) h (omega arith) (omega (arith, mul-le-mul-left k r))
 
 pub scale : (k a b : ℕ) → 0 < k → gcd (k * a) (k * b) ≡ k * gcd a b
 unfolding gcd
@@ -55,5 +59,6 @@ pos-factor g (suc x) d e h = omega arith
 
 pub coprime-den : (n d n′ d′ : ℕ) → 0 < d → 0 < d′ → gcd n d ≡ 1 → gcd n′ d′ ≡ 1 → n * d′ ≡ n′ * d → d ≡ d′
 coprime-den n d n′ d′ h h′ p q e =
-    let s : d′ * gcd n d ≡ d * gcd n′ d′ = sym (scale d′ n d h′) ∙ ap₂ gcd (mul-comm d′ n ∙ e ∙ mul-comm n′ d) (mul-comm d′ d) ∙ scale d n′ d′ h in
+    let s : d′ * gcd n d ≡ d * gcd n′ d′ =
+    sym (scale d′ n d h′) ∙ ap₂ gcd (mul-comm d′ n ∙ e ∙ mul-comm n′ d) (mul-comm d′ d) ∙ scale d n′ d′ h in
     let t : d′ * 1 ≡ d * 1 = rw (p, q) at s in omega arith

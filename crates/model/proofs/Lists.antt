@@ -47,7 +47,8 @@ pub map-length : {A B : Type 0} (f : A → B) (l : List A) → length (map f l) 
 map-length f [] = refl
 map-length f (x ∷ xs) = ap suc (map-length f xs)
 
-pub concat-in : {A B : Type 0} (f : A → List B) (l : List A) (x : A) (y : B) → In x l → In y (f x) → In y (concatMap f l)
+pub concat-in : {A B : Type 0} (f : A → List B) (l : List A) (x : A) (y : B) → In x l → In y (f x)
+    → In y (concatMap f l)
 unfolding concatMap
 concat-in f (z ∷ zs) x y (inl e) i = in-left y (f z) (concatMap f zs) (subst (λ w. In y (f w)) e i)
 concat-in f (z ∷ zs) x y (inr j) i = in-right y (f z) (concatMap f zs) (concat-in f zs x y j i)
@@ -64,7 +65,8 @@ module _ {A : Type 0} where
   sum-filter f p [] = zero-le
   sum-filter f p (x ∷ xs) = go (sum-filter f p xs) (p x) refl
     where
-      go : sumOver f (filter p xs) ≤ sumOver f xs → (t : Bool) → p x ≡ t → sumOver f (filter p (x ∷ xs)) ≤ f x + sumOver f xs
+      go : sumOver f (filter p xs) ≤ sumOver f xs → (t : Bool) → p x ≡ t
+          → sumOver f (filter p (x ∷ xs)) ≤ f x + sumOver f xs
       go r true e = rw (e, filter) (omega arith)
       go r false e = rw (e, filter) (omega arith)
 

@@ -1,6 +1,6 @@
 -- Too large, as the paper words it: `tooLarge` is true exactly when some evaluated set has over 256 rows.
-use Prim.Native.Nat.{ℕ, zero, suc, _<_}
-use mathlib.Core.Bool.{Bool, true, false, _||_}
+use Prim.Native.Nat.{ℕ, suc}
+use mathlib.Core.Bool.{Bool, _||_}
 use mathlib.Core.List.{List}
 use mathlib.Core.Logic.{_⊎_, inl, inr}
 use lib.Dec.{T, ltb, ltb→lt, lt→ltb}
@@ -26,11 +26,13 @@ module _ (d : List ℤ) (qs : List ℕ) where
   -- downwards: where a set from an evaluation on is large, it is that of an evaluation
   module _ (n k : ℕ) (b : Binding) (e : Evaluated d q n k b) where
     here-large : T (ltb limit (length (setOf n d q k b))) → Overlarge d qs
-    here-large t = record { left = n; block = k; binding = b; evaluated = e; over = ltb→lt limit (length (setOf n d q k b)) t }
+    here-large t =
+        record { left = n; block = k; binding = b; evaluated = e; over = ltb→lt limit (length (setOf n d q k b)) t }
 
   below-large : (n k : ℕ) (b : Binding) → Evaluated d q n k b → T (largeBelow n d q k b) → Overlarge d qs
   unfolding largeBelow largeFrom
-  below-large (suc n) k b e t = go (or-cases (ltb limit (length (setOf n d q (y .0) (x .0)))) (largeBelow n d q (y .0) (x .0)) (y .2)) (below-large n (y .0) (x .0) below)
+  below-large (suc n) k b e t = go (or-cases (ltb limit (length (setOf n d q (y .0) (x .0))))
+      (largeBelow n d q (y .0) (x .0)) (y .2)) (below-large n (y .0) (x .0) below)
     where
       x : (m : Binding) × In m (passing d (blockAt q k) b) × T (any (largeFrom n m) (children q k))
       x = of-any (λ m. any (largeFrom n m) (children q k)) (passing d (blockAt q k) b) t
@@ -42,7 +44,7 @@ module _ (d : List ℤ) (qs : List ℕ) where
       below = child e (x .1) (y .1)
 
       go : T (ltb limit (length (setOf n d q (y .0) (x .0)))) ⊎ T (largeBelow n d q (y .0) (x .0))
-        → (T (largeBelow n d q (y .0) (x .0)) → Overlarge d qs) → Overlarge d qs
+          → (T (largeBelow n d q (y .0) (x .0)) → Overlarge d qs) → Overlarge d qs
       go (inl s) r = here-large n (y .0) (x .0) below s
       go (inr s) r = r s
 
@@ -59,10 +61,10 @@ module _ (d : List ℤ) (qs : List ℕ) where
   unfolding tooLarge result largeBelow largeFrom
   up n k b root t = t
   up n k b (child {k = k′} {b = b′} e i j) t =
-    up (suc n) k′ b′ e
+      up (suc n) k′ b′ e
       (or-right (ltb limit (length (setOf (suc n) d q k′ b′))) _
-        (any-of (λ m. any (largeFrom n m) (children q k′)) b (passing d (blockAt q k′) b′) i
-          (any-of (largeFrom n b) k (children q k′) j t)))
+      (any-of (λ m. any (largeFrom n m) (children q k′)) b (passing d (blockAt q k′) b′) i
+      (any-of (largeFrom n b) k (children q k′) j t)))
 
   pub evaluated-large : (n k : ℕ) (b : Binding) → Evaluated d q n k b → T (largeBelow n d q k b) → T (tooLarge d q)
   unfolding largeFrom
@@ -71,5 +73,6 @@ module _ (d : List ℤ) (qs : List ℕ) where
   pub of-overlarge : Overlarge d qs → T (tooLarge d q)
   unfolding largeFrom
   of-overlarge o =
-    up (o .left) (o .block) (o .binding) (o .evaluated)
-      (or-left (ltb limit (length (setOf (o .left) d q (o .block) (o .binding)))) _ (lt→ltb limit (length (setOf (o .left) d q (o .block) (o .binding))) (o .over)))
+      up (o .left) (o .block) (o .binding) (o .evaluated)
+      (or-left (ltb limit (length (setOf (o .left) d q (o .block) (o .binding)))) _
+      (lt→ltb limit (length (setOf (o .left) d q (o .block) (o .binding))) (o .over)))

@@ -1,29 +1,28 @@
 -- Demand 3 (specs/PlanAgreement has its statement): `plans-agree`, `change-never-raises`.
-use Prim.Native.Nat.{ℕ, zero, suc, _+_, _*_, _<_, _≤_, min}
-use native.Mathlib.Nat.{min-eq-left, min-eq-right, le-of-lt}
+use Prim.Native.Nat.{ℕ, zero, suc, _+_, _<_, _≤_}
 use native.Mathlib.Decide.{ℕ-discrete}
+use native.Mathlib.Nat.{min-eq-left, min-eq-right, le-of-lt}
 use native.Mathlib.Omega.{arith}
-use mathlib.Core.Path.{_≡_, refl, sym, _∙_, ap, subst}
-use mathlib.Core.Logic.{_⊎_, inl, inr}
 use mathlib.Core.Bool.{Bool, true, false}
-use mathlib.Core.List.{List, [], _∷_, _++_, map}
+use mathlib.Core.List.{List, [], map}
+use mathlib.Core.Logic.{_⊎_, inl, inr}
+use mathlib.Core.Path.{_≡_, refl, sym, _∙_, ap, subst}
 use lib.Dec.{T, ltb, ltb→lt, nltb→le}
-use lib.ListN.{length}
 use lib.IntN.{ℤ}
-use Rattle.model.specs.Answer.{count, settled, ranTo, outcomeOf, answerOf, rowsGiven, writtenOf}
+use lib.ListN.{length}
+use Rattle.model.specs.Answer.{count, settled, ranTo, outcomeOf, answerOf}
 use Rattle.model.specs.Lists.{range}
-use Rattle.model.specs.Matching.{result, tooLarge}
+use Rattle.model.specs.Matching.{tooLarge}
 use Rattle.model.specs.Outcome.{figuresOf}
-use Rattle.model.specs.Plan.{Path, file, index, merging, pathAt, planAdmitted, pathIn, planOf}
-use Rattle.model.specs.PlanAgreement.{Accepted, Admitted, Overlarge, OneRun, BothLarge, BothGiven, BothLargeOrGiven, TwoRuns}
-use Rattle.model.specs.PlanAgreement.{Changed, file-to-index, index-to-merging, OneChanged}
-use Rattle.model.specs.Question.{Block, blockAt}
+use Rattle.model.specs.Plan.{Path, pathAt, planAdmitted, pathIn, planOf}
+use Rattle.model.specs.PlanAgreement.{Accepted, Admitted, OneRun, BothLargeOrGiven, TwoRuns, Changed}
+use Rattle.model.specs.PlanAgreement.{file-to-index, index-to-merging, OneChanged}
+use Rattle.model.specs.Question.{Block}
 use Rattle.model.specs.Records.{questionOf}
-use Rattle.model.specs.Refusal.{Cause, Lengths, firstOf, causes, planCauses, refusal}
-use Rattle.model.specs.RowSet.{setWords}
-use Rattle.model.specs.declared.Answer.{Answer}
+use Rattle.model.specs.Refusal.{Lengths, firstOf, causes, planCauses, refusal}
 use Rattle.model.specs.declared.Outcome.{Outcome}
-use Rattle.model.specs.declared.Outcome.the-variants.{Given, Refused, OverBudget, TooLarge}
+use Rattle.model.specs.declared.Outcome.the-variants.{Given, OverBudget, TooLarge}
+use Rattle.model.proofs.AnswerLaws.{given-rows}
 use Rattle.model.proofs.Overlarge.{overlarge-of, of-overlarge}
 use Rattle.model.proofs.RefusalLaws.{first-append, first-passes}
 use Rattle.model.proofs.TrialLaws.{Better, same, by-index, by-merging, trials-le}
@@ -82,20 +81,21 @@ module _ (l : Lengths) (d : List ℤ) (qs ps : List ℕ) (budget : ℕ) (ok : Ac
     where
       go : Over ⊎ Inside → OneRun d qs ps budget (answerOf l d qs ps budget)
       go (inl h) =
-        record
-          { over-budget = λ e. h .0
-          ; over-budget-only = λ k. numbered (OverBudget budget) (h .1)
-          ; reported = tried (OverBudget budget) (h .1) ∙ sym (min-eq-right (le-of-lt (h .0)))
+          record {
+            over-budget = λ e. h .0;
+            over-budget-only = λ k. numbered (OverBudget budget) (h .1);
+            reported = tried (OverBudget budget) (h .1) ∙ sym (min-eq-right (le-of-lt (h .0)));
           }
       go (inr h) =
-        record
-          { over-budget = λ e. absurd (settled-not-12 (tooLarge d q) (sym (numbered _ (h .1)) ∙ e))
-          ; over-budget-only = λ k. absurd (let m = h .0 in omega arith)
-          ; reported = tried _ (h .1) ∙ settled-trials (tooLarge d q) ∙ sym (min-eq-left (h .0))
+          record {
+            over-budget = λ e. absurd (settled-not-12 (tooLarge d q) (sym (numbered _ (h .1)) ∙ e));
+            over-budget-only = λ k. absurd (let m = h .0 in omega arith);
+            reported = tried _ (h .1) ∙ settled-trials (tooLarge d q) ∙ sym (min-eq-left (h .0));
           }
 
   -- within the budget
-  within-budget : (answerOf l d qs ps budget .number ≡ 12 → ⊥) → outcomeOf l d qs ps budget ≡ settled (tooLarge d q) d q n
+  within-budget : (answerOf l d qs ps budget .number ≡ 12 → ⊥)
+      → outcomeOf l d qs ps budget ≡ settled (tooLarge d q) d q n
   within-budget free = go outcome
     where
       go : Over ⊎ Inside → outcomeOf l d qs ps budget ≡ settled (tooLarge d q) d q n
@@ -106,64 +106,47 @@ module _ (l : Lengths) (d : List ℤ) (qs ps : List ℕ) (budget : ℕ) (ok : Ac
   unfolding settled
   large-13 e free = numbered (TooLarge n) (within-budget free ∙ ap (λ t. settled t d q n) e)
 
-  given : tooLarge d q ≡ false → (answerOf l d qs ps budget .number ≡ 12 → ⊥)
-    → outcomeOf l d qs ps budget ≡ Given (length (result d q)) (length (blockAt q 0 .outputs)) n
+  given-0 : tooLarge d q ≡ false → (answerOf l d qs ps budget .number ≡ 12 → ⊥) → answerOf l d qs ps budget .number ≡ 0
   unfolding settled
-  given e free = within-budget free ∙ ap (λ t. settled t d q n) e
-
-  -- what an answer with number 0 holds
-  pub record Rows : Type 0 where
-    pub number : answerOf l d qs ps budget .number ≡ 0
-    pub rows : answerOf l d qs ps budget .rows ≡ length (result d q)
-    pub columns : answerOf l d qs ps budget .columns ≡ length (blockAt q 0 .outputs)
-    pub words : writtenOf l d qs ps budget ≡ setWords (result d q)
-
-  given-rows : tooLarge d q ≡ false → (answerOf l d qs ps budget .number ≡ 12 → ⊥) → Rows
-  unfolding answerOf writtenOf
-  given-rows e free =
-    let g = given e free in
-    record
-      { number = ap (λ o. figuresOf o .number) g
-      ; rows = ap (λ o. figuresOf o .rows) g
-      ; columns = ap (λ o. figuresOf o .columns) g
-      ; words = ap (λ o. rowsGiven o (result d q)) g
-      }
+  given-0 e free = numbered (Given _ _ n) (within-budget free ∙ ap (λ t. settled t d q n) e)
 
 pub plans-agree : (l l′ : Lengths) (d : List ℤ) (qs ps ps′ : List ℕ) (budget budget′ : ℕ)
-  → Accepted l d qs → Accepted l′ d qs → Admitted qs ps → Admitted qs ps′ → TwoRuns l l′ d qs ps ps′ budget budget′
+    → Accepted l d qs → Accepted l′ d qs → Admitted qs ps → Admitted qs ps′ → TwoRuns l l′ d qs ps ps′ budget budget′
 plans-agree l l′ d qs ps ps′ budget budget′ ok ok′ adm adm′ =
-    record
-      { one = one-run l d qs ps budget ok adm
-      ; other = one-run l′ d qs ps′ budget′ ok′ adm′
-      ; agree = λ free free′. go free free′ (tooLarge d (questionOf qs)) refl
-      }
+    record {
+      one = one-run l d qs ps budget ok adm;
+      other = one-run l′ d qs ps′ budget′ ok′ adm′;
+      agree = λ free free′. go free free′ (tooLarge d (questionOf qs)) refl;
+    }
   where
     go : (answerOf l d qs ps budget .number ≡ 12 → ⊥) → (answerOf l′ d qs ps′ budget′ .number ≡ 12 → ⊥)
-      → (t : Bool) → tooLarge d (questionOf qs) ≡ t → BothLargeOrGiven l l′ d qs ps ps′ budget budget′
+        → (t : Bool) → tooLarge d (questionOf qs) ≡ t → BothLargeOrGiven l l′ d qs ps ps′ budget budget′
     go free free′ true e =
-      inl (record
-        { overlarge = overlarge-of d qs (rw e tt)
-        ; first = large-13 l d qs ps budget ok adm e free
-        ; second = large-13 l′ d qs ps′ budget′ ok′ adm′ e free′
+        inl (record {
+          overlarge = overlarge-of d qs (rw e tt);
+          first = large-13 l d qs ps budget ok adm e free;
+          second = large-13 l′ d qs ps′ budget′ ok′ adm′ e free′;
         })
     go free free′ false e =
-      let g = given-rows l d qs ps budget ok adm e free in
-      let g′ = given-rows l′ d qs ps′ budget′ ok′ adm′ e free′ in
-      inr (record
-        { not-overlarge = λ o. subst T e (of-overlarge d qs o)
-        ; first = g .number
-        ; second = g′ .number
-        ; same-rows = g .rows ∙ sym (g′ .rows)
-        ; same-columns = g .columns ∙ sym (g′ .columns)
-        ; same-words = g .words ∙ sym (g′ .words)
-        ; rows-of-matching = g .rows
-        ; columns-of-block-0 = g .columns
-        ; words-of-matching = g .words
+        let z = given-0 l d qs ps budget ok adm e free in
+        let z′ = given-0 l′ d qs ps′ budget′ ok′ adm′ e free′ in
+        let g = given-rows l d qs ps budget z in
+        let g′ = given-rows l′ d qs ps′ budget′ z′ in
+        inr (record {
+          not-overlarge = λ o. subst T e (of-overlarge d qs o);
+          first = z;
+          second = z′;
+          same-rows = g .rows ∙ sym (g′ .rows);
+          same-columns = g .columns ∙ sym (g′ .columns);
+          same-words = g .written ∙ sym (g′ .written);
+          rows-of-matching = g .rows;
+          columns-of-block-0 = g .columns;
+          words-of-matching = g .written;
         })
 
 -- one path changed
 better-paths : (f g : ℕ → Path) (a n : ℕ) → ((j : ℕ) → j < a + n → Better (f j) (g j))
-  → (k : ℕ) → Better (pathAt (map f (range a n)) k) (pathAt (map g (range a n)) k)
+    → (k : ℕ) → Better (pathAt (map f (range a n)) k) (pathAt (map g (range a n)) k)
 unfolding range
 better-paths f g a zero h k = same
 better-paths f g a (suc n) h zero = h a (omega arith)
@@ -173,7 +156,8 @@ pub change-never-raises : (d : List ℤ) (qs ps ps′ : List ℕ) → OneChanged
 unfolding planOf
 change-never-raises d qs ps ps′ o =
     trials-le d (questionOf qs) (planOf (length (questionOf qs)) ps) (planOf (length (questionOf qs)) ps′)
-      (better-paths (pathIn ps) (pathIn ps′) 0 (length (questionOf qs)) (λ j l. at j (omega arith) (ℕ-discrete j (o .at))))
+    (better-paths (pathIn ps) (pathIn ps′) 0 (length (questionOf qs))
+    (λ j l. at j (omega arith) (ℕ-discrete j (o .at))))
   where
     step : (p p′ : Path) → Changed p p′ → Better p p′
     step p p′ file-to-index = by-index

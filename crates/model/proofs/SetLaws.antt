@@ -1,10 +1,10 @@
 -- Insertion into a strictly ascending list, and that such lists with the same members are equal.
 -- The order is linear on the members that have P: two of these that compare equal are the same.
-use Prim.Native.Nat.{ℕ, zero, suc, _+_, compare, Ordering, Ordering·lt, Ordering·eq, Ordering·gt}
+use Prim.Native.Nat.{ℕ, Ordering, Ordering·lt, Ordering·eq, Ordering·gt}
 use native.Mathlib.Omega.{arith}
-use mathlib.Core.Path.{_≡_, refl, sym, _∙_, ap, subst}
-use mathlib.Core.Logic.{_⊎_, inl, inr}
 use mathlib.Core.List.{List, [], _∷_}
+use mathlib.Core.Logic.{_⊎_, inl, inr}
+use mathlib.Core.Path.{_≡_, refl, sym, subst}
 use Rattle.model.specs.Lists.{In, All}
 use Rattle.model.specs.RowSet.{insert}
 
@@ -59,7 +59,8 @@ module _ {A : Type 0} (cmp : A → A → Ordering) where
       after (inl p) = inl p
       after (inr k) = inr (inr k)
 
-      go : (In a (insert cmp x zs) → (a ≡ x) ⊎ In a zs) → (o : Ordering) → cmp x z ≡ o → In a (insert cmp x (z ∷ zs)) → (a ≡ x) ⊎ In a (z ∷ zs)
+      go : (In a (insert cmp x zs) → (a ≡ x) ⊎ In a zs) → (o : Ordering) → cmp x z ≡ o → In a (insert cmp x (z ∷ zs))
+          → (a ≡ x) ⊎ In a (z ∷ zs)
       go r Ordering·lt e = rw (e, insert) (λ k. k)
       go r Ordering·eq e = rw (e, insert) (λ k. inr k)
       go r Ordering·gt e = rw (e, insert) (elim [ inl p ↦ inr (inl p) | inr k ↦ after (r k) ])
@@ -120,19 +121,23 @@ module _ {A : Type 0} (P : A → Type 0) (cmp : A → A → Ordering) (L : Linea
   not-in-under : (x : A) (l : List A) → Under cmp x l → In x l → ⊥
   not-in-under x l u i = not-under-self x (under-in x x l u i)
 
-  heads : (x y : A) (xs ys : List A) → P x → P y → Under cmp x xs → Under cmp y ys → In x (y ∷ ys) → In y (x ∷ xs) → x ≡ y
+  heads : (x y : A) (xs ys : List A) → P x → P y → Under cmp x xs → Under cmp y ys → In x (y ∷ ys) → In y (x ∷ xs)
+      → x ≡ y
   heads x y xs ys p q u v (inl e) j = e
   heads x y xs ys p q u v (inr i) (inl e) = sym e
-  heads x y xs ys p q u v (inr i) (inr j) = absurd (not-under-self x (L .chain x y x p q p (under-in x y xs u j) (under-in y x ys v i)))
+  heads x y xs ys p q u v (inr i) (inr j) =
+      absurd (not-under-self x (L .chain x y x p q p (under-in x y xs u j) (under-in y x ys v i)))
 
-  drop-head : (x : A) (xs ys : List A) → Under cmp x xs → ((a : A) → In a (x ∷ xs) → In a (x ∷ ys)) → (a : A) → In a xs → In a ys
+  drop-head : (x : A) (xs ys : List A) → Under cmp x xs → ((a : A) → In a (x ∷ xs) → In a (x ∷ ys)) → (a : A)
+      → In a xs → In a ys
   drop-head x xs ys u f a i = go (f a (inr i))
     where
       go : (a ≡ x) ⊎ In a ys → In a ys
       go (inl p) = absurd (not-in-under x xs u (subst (λ b. In b xs) p i))
       go (inr k) = k
 
-  pub same-members : (l r : List A) → All P l → All P r → Ascending cmp l → Ascending cmp r → ((a : A) → In a l → In a r) → ((a : A) → In a r → In a l) → l ≡ r
+  pub same-members : (l r : List A) → All P l → All P r → Ascending cmp l → Ascending cmp r
+      → ((a : A) → In a l → In a r) → ((a : A) → In a r → In a l) → l ≡ r
   same-members [] [] p q a b f g = refl
   same-members [] (y ∷ ys) p q a b f g = absurd (g y (inl refl))
   same-members (x ∷ xs) [] p q a b f g = absurd (f x (inl refl))
@@ -140,4 +145,5 @@ module _ {A : Type 0} (P : A → Type 0) (cmp : A → A → Ordering) (L : Linea
       let e : x ≡ y = heads x y xs ys (p .0) (q .0) (a .0) (b .0) (f x (inl refl)) (g y (inl refl)) in
       let f′ : (c : A) → In c (x ∷ xs) → In c (x ∷ ys) = λ c i. rw e (f c i) in
       let g′ : (c : A) → In c (x ∷ ys) → In c (x ∷ xs) = λ c i. g c (rw e at i) in
-      rw (same-members xs ys (p .1) (q .1) (a .1) (b .1) (drop-head x xs ys (a .0) f′) (drop-head x ys xs (subst (λ z. Under cmp z ys) (sym e) (b .0)) g′)) (rw e)
+      rw (same-members xs ys (p .1) (q .1) (a .1) (b .1) (drop-head x xs ys (a .0) f′)
+      (drop-head x ys xs (subst (λ z. Under cmp z ys) (sym e) (b .0)) g′)) (rw e)

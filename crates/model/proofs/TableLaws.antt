@@ -1,16 +1,16 @@
 -- The rows of a table that is there, and of one that is not.
-use Prim.Native.Nat.{ℕ, zero, suc, _+_, _<_, _≤_}
+use Prim.Native.Nat.{ℕ, _<_, _≤_}
 use native.Mathlib.Omega.{arith}
-use mathlib.Core.Path.{_≡_, refl, sym, _∙_, ap}
 use mathlib.Core.Bool.{Bool, true, false}
-use mathlib.Core.List.{List, [], _∷_, map}
-use lib.Dec.{T, ltb, ltb→lt, nltb→le}
-use lib.ListN.{length}
+use mathlib.Core.List.{List, [], map}
+use mathlib.Core.Path.{_≡_, refl, _∙_, ap}
+use lib.Dec.{ltb, ltb→lt, nltb→le}
 use lib.IntN.{ℤ}
+use lib.ListN.{length}
 use Rattle.model.specs.Lists.{range}
 use Rattle.model.specs.Tables.{tables, rows, tableRow, tableRows}
-use Rattle.model.proofs.Tests.{range-length}
 use Rattle.model.proofs.Lists.{map-length}
+use Rattle.model.proofs.Tests.{range-length}
 
 pub rows-there : (d : List ℤ) (t : ℕ) → t < tables d → tableRows d t ≡ map (tableRow d t) (range 0 (rows d t))
 unfolding tableRows
@@ -29,4 +29,5 @@ rows-absent d t h = go (ltb t (tables d)) refl
     go false e = rw (e, tableRows)
 
 pub table-length : (d : List ℤ) (t : ℕ) → t < tables d → length (tableRows d t) ≡ rows d t
-table-length d t h = ap length (rows-there d t h) ∙ map-length (tableRow d t) (range 0 (rows d t)) ∙ range-length 0 (rows d t)
+table-length d t h =
+    ap length (rows-there d t h) ∙ map-length (tableRow d t) (range 0 (rows d t)) ∙ range-length 0 (rows d t)

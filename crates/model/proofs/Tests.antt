@@ -3,11 +3,11 @@ use Prim.Native.Nat.{ℕ, zero, suc, _+_, _<_, _≤_, zero-le, suc-le-suc}
 use native.Mathlib.Decide.{ℕ-discrete}
 use native.Mathlib.Omega.{arith}
 use mathlib.Core.Bool.{Bool, true, false, _&&_, _||_, not}
-use mathlib.Core.List.{List, [], _∷_, _++_, map}
+use mathlib.Core.List.{List, [], _∷_, _++_}
 use mathlib.Core.Logic.{_⊎_, inl, inr}
-use mathlib.Core.Path.{_≡_, refl, sym, _∙_, ap}
+use mathlib.Core.Path.{_≡_, refl, ap, subst}
 use lib.Dec.{T}
-use lib.ListN.{length}
+use lib.ListN.{length, getD}
 use Rattle.model.specs.Lists.{In, all, any, filter, range}
 
 pub or-left : (a b : Bool) → T a → T (a || b)
@@ -20,6 +20,13 @@ or-right false b t = t
 pub or-cases : (a b : Bool) → T (a || b) → T a ⊎ T b
 or-cases true b t = inl tt
 or-cases false b t = inr t
+
+pub or-false : (a b : Bool) → a || b ≡ false → (a ≡ false) × (b ≡ false)
+or-false true b e = absurd (subst (λ c. T c) e tt)
+or-false false b e = (refl, e)
+
+pub not-false : (a : Bool) → a ≡ false → T (not a)
+not-false a e = rw e tt
 
 pub and-left : (a b : Bool) → T (a && b) → T a
 and-left true b t = tt
@@ -51,7 +58,8 @@ module _ {A : Type 0} where
   unfolding any
   of-any p (y ∷ ys) t = go (p y) refl t (of-any p ys)
     where
-      go : (b : Bool) → p y ≡ b → T (b || any p ys) → (T (any p ys) → (x : A) × In x ys × T (p x)) → (x : A) × In x (y ∷ ys) × T (p x)
+      go : (b : Bool) → p y ≡ b → T (b || any p ys) → (T (any p ys) → (x : A) × In x ys × T (p x))
+          → (x : A) × In x (y ∷ ys) × T (p x)
       go true e t r = (y, inl refl, rw e tt)
       go false e t r = let k = r t in (k .0, inr (k .1), k .2)
 
@@ -64,7 +72,8 @@ module _ {A : Type 0} where
   unfolding filter
   in-filter p a (x ∷ xs) i = go (in-filter p a xs) (p x) refl i
     where
-      go : (In a (filter p xs) → In a xs × T (p a)) → (t : Bool) → p x ≡ t → In a (filter p (x ∷ xs)) → In a (x ∷ xs) × T (p a)
+      go : (In a (filter p xs) → In a xs × T (p a)) → (t : Bool) → p x ≡ t → In a (filter p (x ∷ xs))
+          → In a (x ∷ xs) × T (p a)
       go r true e = rw (e, filter) (elim [ inl h ↦ (inl h, rw (h, e) tt) | inr h ↦ (inr (r h .0), r h .1) ])
       go r false e = rw (e, filter) (λ h. (inr (r h .0), r h .1))
 
@@ -81,6 +90,11 @@ module _ {A : Type 0} where
       go r true e = rw (e, filter) (inr r)
       go r false e = rw (e, filter) r
 
+  pub place-in : (l : List A) (z : A) (i : ℕ) → i < length l → In (getD l i z) l
+  place-in [] z i h = absurd (omega arith)
+  place-in (x ∷ xs) z zero h = inl refl
+  place-in (x ∷ xs) z (suc i) h = inr (place-in xs z i (omega arith))
+
   pub filter-length : (p : A → Bool) (l : List A) → length (filter p l) ≤ length l
   unfolding filter
   filter-length p [] = zero-le
@@ -95,7 +109,8 @@ module _ {A : Type 0} where
   filter-append p [] r = refl
   filter-append p (x ∷ xs) r = go (filter-append p xs r) (p x) refl
     where
-      go : filter p (xs ++ r) ≡ filter p xs ++ filter p r → (t : Bool) → p x ≡ t → filter p ((x ∷ xs) ++ r) ≡ filter p (x ∷ xs) ++ filter p r
+      go : filter p (xs ++ r) ≡ filter p xs ++ filter p r → (t : Bool) → p x ≡ t
+          → filter p ((x ∷ xs) ++ r) ≡ filter p (x ∷ xs) ++ filter p r
       go h true e = rw (e, filter) (ap (λ l. x ∷ l) h)
       go h false e = rw (e, filter) h
 

@@ -1,9 +1,11 @@
--- Integers and values in order: the order of values in lowest terms is linear; `ratio` gives lowest terms and the same value.
-use Prim.Native.Nat.{ℕ, zero, suc, _+_, _*_, _/_, _<_, _≤_, zero-le, suc-le-suc, compare, Ordering, Ordering·lt, Ordering·eq, Ordering·gt, compare·zero-zero, compare·zero-suc, compare·suc-zero, compare·suc-suc}
-use native.Mathlib.Nat.{le-of-suc-le-suc, not-suc-le-zero, mul-lt-mul-of-pos-right, mul-pos, zero-mul, mul-one, mul-div-cancel', eq-of-mul-eq-mul-left, pos-of-dvd-of-pos, eq-one-of-dvd-one}
+-- Integers and values in order: the order of values in lowest terms is linear; `ratio` gives lowest terms and the
+-- same value.
+use Prim.Native.Nat.{ℕ, zero, suc, _*_, _/_, _<_, compare, Ordering, Ordering·lt, Ordering·eq, Ordering·gt}
+use Prim.Native.Nat.{compare·zero-suc, compare·suc-zero, compare·suc-suc}
+use native.Mathlib.Nat.{mul-lt-mul-of-pos-right, mul-pos, zero-mul, mul-one, mul-div-cancel', eq-of-mul-eq-mul-left}
+use native.Mathlib.Nat.{pos-of-dvd-of-pos, eq-one-of-dvd-one}
 use native.Mathlib.Omega.{arith}
 use mathlib.Core.Path.{_≡_, refl, sym, _∙_, ap, ap₂, subst}
-use mathlib.Core.List.{List, [], _∷_}
 use lib.Dec.{T, isEq, eqb→eq}
 use lib.IntN.{ℤ, pos, negsuc, natAbs, negℤ, _*ℤ_}
 use Rattle.model.specs.Value.{Value, whole, gcd, divZ, ratio, compareZ, order}
@@ -36,12 +38,19 @@ compare-chain zero m zero e f = to m f
 compare-chain zero m (suc n) e f = compare·zero-suc n
 compare-chain (suc k) zero n e f = cc (compare·suc-zero k)
 compare-chain (suc k) (suc m) zero e f = cc (compare·suc-zero m)
-compare-chain (suc k) (suc m) (suc n) e f = compare·suc-suc k n ∙ compare-chain k m n (sym (compare·suc-suc k m) ∙ e) (sym (compare·suc-suc m n) ∙ f)
+compare-chain (suc k) (suc m) (suc n) e f =
+    compare·suc-suc k n ∙ compare-chain k m n (sym (compare·suc-suc k m) ∙ e) (sym (compare·suc-suc m n) ∙ f)
 
 -- the integers
 pub linearZ : Linear (λ x. Unit {0}) compareZ
 unfolding compareZ
-linearZ = record { same = λ x y p q. same x y; self = self; turn = λ x y p q. turn x y; chain = λ x y z p q r. chain x y z }
+linearZ = record {
+  same = λ x y p q. same x y;
+  self = self;
+  turn = λ x y p q. turn x y;
+  chain =
+      λ x y z p q r. chain x y z;
+}
   where
     same : (x y : ℤ) → compareZ x y ≡ Ordering·eq → x ≡ y
     same (pos m) (pos n) e = ap pos (compare-same m n e)
@@ -91,7 +100,8 @@ compare-scale a b k h = go (compare a b) refl
     go : (o : Ordering) → compare a b ≡ o → compare (a * k) (b * k) ≡ compare a b
     go Ordering·lt e = compare-lt (a * k) (b * k) (mul-lt-mul-of-pos-right (lt-compare a b e) h) ∙ sym e
     go Ordering·eq e = ap (λ z. compare z (b * k)) (ap (λ z. z * k) (compare-same a b e)) ∙ compare-self (b * k) ∙ sym e
-    go Ordering·gt e = compare-gt (a * k) (b * k) (mul-lt-mul-of-pos-right (lt-compare b a (compare-turn a b e)) h) ∙ sym e
+    go Ordering·gt e =
+        compare-gt (a * k) (b * k) (mul-lt-mul-of-pos-right (lt-compare b a (compare-turn a b e)) h) ∙ sym e
 
 above-neg : (n m : ℕ) → 0 < m → compareZ (pos n) (negℤ (pos m)) ≡ Ordering·gt
 unfolding compareZ
@@ -114,7 +124,8 @@ unfolding compareZ
 scaleZ (pos a) (pos b) k h = compare-scale a b k h
 scaleZ (pos a) (negsuc b) k h = above-neg (a * k) (suc b * k) (mul-pos (omega arith) h)
 scaleZ (negsuc a) (pos b) k h = below-pos (b * k) (suc a * k) (mul-pos (omega arith) h)
-scaleZ (negsuc a) (negsuc b) k h = compare-neg (suc a * k) (suc b * k) (mul-pos (omega arith) h) (mul-pos (omega arith) h) ∙ compare-scale (suc b) (suc a) k h ∙ compare·suc-suc b a
+scaleZ (negsuc a) (negsuc b) k h = compare-neg (suc a * k) (suc b * k) (mul-pos (omega arith) h)
+    (mul-pos (omega arith) h) ∙ compare-scale (suc b) (suc a) k h ∙ compare·suc-suc b a
 
 neg-mul : (m b : ℕ) → negℤ (pos m) *ℤ pos b ≡ negℤ (pos (m * b))
 neg-mul zero b = rw zero-mul
@@ -122,7 +133,8 @@ neg-mul (suc m) b = refl
 
 swap-factors : (x : ℤ) (a b : ℕ) → x *ℤ pos a *ℤ pos b ≡ x *ℤ pos b *ℤ pos a
 swap-factors (pos n) a b = ap pos (omega arith)
-swap-factors (negsuc n) a b = let e : suc n * a * b ≡ suc n * b * a = omega arith in neg-mul (suc n * a) b ∙ ap (λ z. negℤ (pos z)) e ∙ sym (neg-mul (suc n * b) a)
+swap-factors (negsuc n) a b = let e : suc n * a * b ≡ suc n * b * a = omega arith in
+    neg-mul (suc n * a) b ∙ ap (λ z. negℤ (pos z)) e ∙ sym (neg-mul (suc n * b) a)
 
 neg-abs : (x : ℤ) → natAbs (negℤ x) ≡ natAbs x
 neg-abs (pos zero) = refl
@@ -146,32 +158,39 @@ same-value : (x y : Value) → Lowest x → Lowest y → x .num *ℤ pos (y .den
 same-value x y p q e = ap₂ (λ a b. record { num = a; den = b }) nums dens
   where
     dens : x .den ≡ y .den
-    dens = coprime-den (natAbs (x .num)) (x .den) (natAbs (y .num)) (y .den) (p .positive) (q .positive) (p .coprime) (q .coprime) (sym (mul-abs (x .num) (y .den)) ∙ ap natAbs e ∙ mul-abs (y .num) (x .den))
+    dens = coprime-den (natAbs (x .num)) (x .den) (natAbs (y .num)) (y .den) (p .positive) (q .positive) (p .coprime)
+        (q .coprime) (sym (mul-abs (x .num) (y .den)) ∙ ap natAbs e ∙ mul-abs (y .num) (x .den))
 
     crossed : compareZ (x .num *ℤ pos (x .den)) (y .num *ℤ pos (x .den)) ≡ Ordering·eq
-    crossed = ap (λ z. compareZ z (y .num *ℤ pos (x .den))) (ap (λ k. x .num *ℤ pos k) dens ∙ e) ∙ linearZ .self (y .num *ℤ pos (x .den))
+    crossed = ap (λ z. compareZ z (y .num *ℤ pos (x .den))) (ap (λ k. x .num *ℤ pos k) dens ∙ e)
+        ∙ linearZ .self (y .num *ℤ pos (x .den))
 
     nums : x .num ≡ y .num
     nums = linearZ .same (x .num) (y .num) tt tt (sym (scaleZ (x .num) (y .num) (x .den) (p .positive)) ∙ crossed)
 
-order-chain : (x y z : Value) → Lowest x → Lowest y → Lowest z → order x y ≡ Ordering·lt → order y z ≡ Ordering·lt → order x z ≡ Ordering·lt
+order-chain : (x y z : Value) → Lowest x → Lowest y → Lowest z → order x y ≡ Ordering·lt → order y z ≡ Ordering·lt
+    → order x z ≡ Ordering·lt
 unfolding order
 order-chain x y z p q r e f =
     let X = x .num in let Y = y .num in let Z = z .num in
     let a = x .den in let b = y .den in let c = z .den in
-    let e′ : compareZ (X *ℤ pos b *ℤ pos c) (Y *ℤ pos a *ℤ pos c) ≡ Ordering·lt = scaleZ (X *ℤ pos b) (Y *ℤ pos a) c (r .positive) ∙ e in
-    let f′ : compareZ (Y *ℤ pos c *ℤ pos a) (Z *ℤ pos b *ℤ pos a) ≡ Ordering·lt = scaleZ (Y *ℤ pos c) (Z *ℤ pos b) a (p .positive) ∙ f in
-    let g : compareZ (X *ℤ pos b *ℤ pos c) (Z *ℤ pos b *ℤ pos a) ≡ Ordering·lt = linearZ .chain (X *ℤ pos b *ℤ pos c) (Y *ℤ pos a *ℤ pos c) (Z *ℤ pos b *ℤ pos a) tt tt tt e′ (ap (λ t. compareZ t (Z *ℤ pos b *ℤ pos a)) (swap-factors Y a c) ∙ f′) in
+    let e′ : compareZ (X *ℤ pos b *ℤ pos c) (Y *ℤ pos a *ℤ pos c) ≡ Ordering·lt =
+    scaleZ (X *ℤ pos b) (Y *ℤ pos a) c (r .positive) ∙ e in
+    let f′ : compareZ (Y *ℤ pos c *ℤ pos a) (Z *ℤ pos b *ℤ pos a) ≡ Ordering·lt =
+    scaleZ (Y *ℤ pos c) (Z *ℤ pos b) a (p .positive) ∙ f in
+    let g : compareZ (X *ℤ pos b *ℤ pos c) (Z *ℤ pos b *ℤ pos a) ≡ Ordering·lt =
+    linearZ .chain (X *ℤ pos b *ℤ pos c) (Y *ℤ pos a *ℤ pos c) (Z *ℤ pos b *ℤ pos a) tt tt tt e′
+    (ap (λ t. compareZ t (Z *ℤ pos b *ℤ pos a)) (swap-factors Y a c) ∙ f′) in
     sym (scaleZ (X *ℤ pos c) (Z *ℤ pos a) b (q .positive)) ∙ ap₂ compareZ (swap-factors X c b) (swap-factors Z a b) ∙ g
 
 pub linearValue : Linear Lowest order
 unfolding order
 linearValue =
-  record
-    { same = λ x y p q e. same-value x y p q (linearZ .same (x .num *ℤ pos (y .den)) (y .num *ℤ pos (x .den)) tt tt e)
-    ; self = λ x. linearZ .self (x .num *ℤ pos (x .den))
-    ; turn = λ x y p q. linearZ .turn (x .num *ℤ pos (y .den)) (y .num *ℤ pos (x .den)) tt tt
-    ; chain = order-chain
+    record {
+      same = λ x y p q e. same-value x y p q (linearZ .same (x .num *ℤ pos (y .den)) (y .num *ℤ pos (x .den)) tt tt e);
+      self = λ x. linearZ .self (x .num *ℤ pos (x .den));
+      turn = λ x y p q. linearZ .turn (x .num *ℤ pos (y .den)) (y .num *ℤ pos (x .den)) tt tt;
+      chain = order-chain;
     }
 
 -- `ratio`
@@ -189,7 +208,8 @@ module _ (n d : ℕ) (h : 0 < d) where
   low-pos = pos-factor (gcd n d) (d / gcd n d) d low h
 
   divided-coprime : gcd (n / gcd n d) (d / gcd n d) ≡ 1
-  divided-coprime = eq-of-mul-eq-mul-left (gcd n d) gcd-pos (gcd (n / gcd n d) (d / gcd n d)) 1 (sym (scale (gcd n d) (n / gcd n d) (d / gcd n d) gcd-pos) ∙ ap₂ gcd top low ∙ sym (mul-one (gcd n d)))
+  divided-coprime = eq-of-mul-eq-mul-left (gcd n d) gcd-pos (gcd (n / gcd n d) (d / gcd n d)) 1
+      (sym (scale (gcd n d) (n / gcd n d) (d / gcd n d) gcd-pos) ∙ ap₂ gcd top low ∙ sym (mul-one (gcd n d)))
 
   divided-same : n / gcd n d * d ≡ n * (d / gcd n d)
   divided-same =
@@ -213,4 +233,5 @@ ratio-value (negsuc n) d h = neg-mul (suc n / gcd (suc n) d) d ∙ ap (λ t. neg
 -- so it compares equal with the bare numerator over the bare denominator
 pub ratio-order : (n : ℤ) (d : ℕ) → 0 < d → order (ratio n d) (record { num = n; den = d }) ≡ Ordering·eq
 unfolding order
-ratio-order n d h = ap (λ t. compareZ t (n *ℤ pos (ratio n d .den))) (ratio-value n d h) ∙ linearZ .self (n *ℤ pos (ratio n d .den))
+ratio-order n d h =
+    ap (λ t. compareZ t (n *ℤ pos (ratio n d .den))) (ratio-value n d h) ∙ linearZ .self (n *ℤ pos (ratio n d .den))

@@ -1,5 +1,5 @@
--- Aggregates of a set of rows (01, "Matching": "row by row, so equal values in different rows all tell"). Of an empty set
--- each is zero.
+-- Aggregates of a set of rows (01, "Matching": "row by row, so equal values in different rows all tell"). Of an empty
+-- set each is zero.
 --   columnAt c r          the value in column c of a row; columnOf c rs: those of all rows, row by row
 --   total xs              the sum of the numerators of whole values
 --   lesser x y, greater x y   the one of two values that is less, that is greater; the first where they are equal

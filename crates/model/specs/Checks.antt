@@ -1,9 +1,11 @@
--- The causes 6 to 10 over a question, each as the test that it does NOT apply (01, "Causes of refusal"; READINGS 14 to 22).
+-- The causes 6 to 10 over a question, each as the test that it does NOT apply (01, "Causes of refusal"; READINGS 14
+-- to 22).
 --   countsFit q          6: blocks, relation rows, conditions, output columns, aggregates of one block
 --   placed q j           the parent of block j is an earlier block (255 for block 0), and its level at most 4
 --   elementThere q j e   element e of block j names a variable from 0 to 15, a child and a column of it
 --   blockThere d q j     7 in block j; allThere d q: in every block
---   elementBound q j e   a variable stands in a relation row of block j and in no other block, a fixed one in an ancestor
+--   elementBound q j e   a variable stands in a relation row of block j and in no other block, a fixed one in an
+--                        ancestor
 --   blockBound q j       8 in block j; allBound q: in every block
 --   ratioBy f r          function f of a column gives a ratio, where r tells whether the column is one
 --   ratioAt n q b c      output column c of block b is a ratio, where n levels are left
@@ -16,7 +18,8 @@ use lib.Dec.{eqb, ltb, leb}
 use lib.IntN.{ℤ, natAbs}
 use lib.ListN.{length, getD}
 use Rattle.model.specs.Lists.{all, any, filter, range, concatMap}
-use Rattle.model.specs.Question.{Element, empty, constant, variable, fixed, aggregate, RelationRow, Block, blockAt}
+use Rattle.model.specs.Question.{Element, empty, constant, variable, fixed, aggregate}
+use Rattle.model.specs.Question.{RelationRow, Block, blockAt}
 use Rattle.model.specs.Question.{names, elements}
 use Rattle.model.specs.Scope.{levels, owns, within, levelOf}
 use Rattle.model.specs.Tables.{tables, columns}
@@ -27,7 +30,7 @@ fromTo a b n = leb a n && leb n b
 
 unfoldable pub countsFit : List Block → Bool
 countsFit q =
-  fromTo 1 5 (length q)
+    fromTo 1 5 (length q)
     && all (λ b. leb (length (b .relations)) 3 && leb (length (b .conditions)) 8 && fromTo 1 4 (length (b .outputs))) q
     && all (λ k. leb (length (filter (names k) (concatMap elements q))) 3) (range 0 256)
 
@@ -42,11 +45,11 @@ elementThere q j (constant x) = true
 elementThere q j (variable v) = ltb v 16
 elementThere q j (fixed v) = ltb v 16
 elementThere q j (aggregate f k c) =
-  ltb k (length q) && ltb 0 k && eqb (blockAt q k .parent) j && ltb c (length (blockAt q k .outputs))
+    ltb k (length q) && ltb 0 k && eqb (blockAt q k .parent) j && ltb c (length (blockAt q k .outputs))
 
 unfoldable pub blockThere : List ℤ → List Block → ℕ → Bool
 blockThere d q j =
-  placed q j
+    placed q j
     && all (λ w. ltb (w .table) (tables d) && eqb (length (w .entries)) (columns d (w .table))) (blockAt q j .relations)
     && all (elementThere q j) (elements (blockAt q j))
 
@@ -58,9 +61,9 @@ abbrev pub elementBound : List Block → ℕ → Element → Bool
 elementBound q j empty = true
 elementBound q j (constant x) = true
 elementBound q j (variable v) =
-  owns v (blockAt q j) && all (λ i. eqb i j || not (owns v (blockAt q i))) (range 0 (length q))
+    owns v (blockAt q j) && all (λ i. eqb i j || not (owns v (blockAt q i))) (range 0 (length q))
 elementBound q j (fixed v) =
-  any (λ a. within 5 q a (blockAt q j .parent) && owns v (blockAt q a)) (range 0 (length q))
+    any (λ a. within 5 q a (blockAt q j .parent) && owns v (blockAt q a)) (range 0 (length q))
 elementBound q j (aggregate f k c) = true
 
 unfoldable pub blockBound : List Block → ℕ → Bool

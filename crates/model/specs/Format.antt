@@ -1,5 +1,5 @@
--- The elements and records of a question, parsed from bytes (01, "The question"; cause 5). A parser gives `none` where the
--- bytes are malformed. Counts are read as they stand: the limits are cause 6, what they refer to cause 7.
+-- The elements and records of a question, parsed from bytes (01, "The question"; cause 5). A parser gives `none`
+-- where the bytes are malformed. Counts are read as they stand: the limits are cause 6, what they refer to cause 7.
 --   Parser A           takes bytes from the front: a value and the bytes after it, or none
 --   _>>=_              one parser after the other; after: the same where the first has run
 --   give, fail, only   a value of no bytes; none; a value where a test holds
@@ -61,8 +61,8 @@ signed n = elim (ltb n (2 ^ 63)) [ true ↦ pos n | false ↦ negsuc (2 ^ 64 - 1
 -- function, block, column; the other bytes are 0, and the column of a count
 unfoldable pub aggregateIs : List ℕ → Parser Element
 aggregateIs xs =
-  let f = getD xs 0 0 in let k = getD xs 1 0 in let c = getD xs 2 0 in
-  only (ltb f 5 && (eqb (number64 (drop 3 xs)) 0 && (not (eqb f 0) || eqb c 0))) (aggregate f k c)
+    let f = getD xs 0 0 in let k = getD xs 1 0 in let c = getD xs 2 0 in
+    only (ltb f 5 && (eqb (number64 (drop 3 xs)) 0 && (not (eqb f 0) || eqb c 0))) (aggregate f k c)
 
 -- a variable's argument is not 0 to 15 where it is negative either: as an unsigned number it is far past 15
 unfoldable pub elementOf : ℕ → List ℕ → Parser Element

@@ -42,9 +42,10 @@ marked m (a ∷ b ∷ bs) = eqb a (m .first) && eqb b (m .second)
 module _ {A : Type 0} where
   unfoldable pub many : ℕ → Mark → Parser A → Parser (List A)
   many zero m p bs = some ([], bs)
-  many (suc n) m p bs = elim (marked m bs)
-    [ true ↦ after (p (drop 2 bs)) (λ a cs. after (many n m p cs) (λ xs ds. some (a ∷ xs, ds)))
-    | false ↦ some ([], bs) ]
+  many (suc n) m p bs = elim (marked m bs) [
+    | true ↦ after (p (drop 2 bs)) (λ a cs. after (many n m p cs) (λ xs ds. some (a ∷ xs, ds)))
+    | false ↦ some ([], bs)
+  ]
 
   unfoldable pub one : Mark → Parser A → Parser A
   one m p bs = elim (marked m bs) [ true ↦ p (drop 2 bs) | false ↦ none ]
@@ -63,9 +64,10 @@ ends (b ∷ bs) = false
 
 -- a record takes at least two bytes, so their number is enough for every `many`
 unfoldable pub question : List ℕ → Option (List Block)
-question bs = elim (many (length bs) BK (block (length bs)) bs)
-  [ none ↦ none
-  | some p ↦ elim (marked EN (p .1) && ends (drop 2 (p .1))) [ true ↦ some (p .0) | false ↦ none ] ]
+question bs = elim (many (length bs) BK (block (length bs)) bs) [
+  | none ↦ none
+  | some p ↦ elim (marked EN (p .1) && ends (drop 2 (p .1))) [ true ↦ some (p .0) | false ↦ none ]
+]
 
 abbrev pub isQuestion : Option (List Block) → Bool
 isQuestion none = false

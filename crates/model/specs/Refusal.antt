@@ -56,8 +56,8 @@ dataCauses d = (3, laidOut d) ∷ (4, inRange d) ∷ []
 
 unfoldable pub questionCauses : List ℤ → List ℕ → List Cause
 questionCauses d qs =
-  let q = questionOf qs in
-  (5, wellFormed qs) ∷ (6, countsFit q) ∷ (7, allThere d q) ∷ (8, allBound q)
+    let q = questionOf qs in
+    (5, wellFormed qs) ∷ (6, countsFit q) ∷ (7, allThere d q) ∷ (8, allBound q)
     ∷ (9, all (sumsWhole q) (concatMap elements q)) ∷ (10, all constantFits (concatMap elements q)) ∷ []
 
 unfoldable pub planCauses : List ℕ → List ℕ → List Cause

@@ -1,4 +1,5 @@
--- Rows, and sets of rows as strictly ascending lists: one list for each set (01, "Matching": "added if not already present").
+-- Rows, and sets of rows as strictly ascending lists: one list for each set (01, "Matching": "added if not already
+-- present").
 --   Row                values, one for each column
 --   lexicographic cmp  the order of lists by their first difference, a shorter list before its continuations
 --   orderRows r r′     rows in order of exact values, first column first
@@ -20,12 +21,12 @@ module _ {A : Type 0} (cmp : A → A → Ordering) where
   lexicographic [] (y ∷ ys) = Ordering·lt
   lexicographic (x ∷ xs) [] = Ordering·gt
   lexicographic (x ∷ xs) (y ∷ ys) =
-    elim (cmp x y) [ Ordering·lt ↦ Ordering·lt | Ordering·eq ↦ lexicographic xs ys | Ordering·gt ↦ Ordering·gt ]
+      elim (cmp x y) [ Ordering·lt ↦ Ordering·lt | Ordering·eq ↦ lexicographic xs ys | Ordering·gt ↦ Ordering·gt ]
 
   unfoldable pub insert : A → List A → List A
   insert x [] = x ∷ []
   insert x (y ∷ ys) =
-    elim (cmp x y) [ Ordering·lt ↦ x ∷ y ∷ ys | Ordering·eq ↦ y ∷ ys | Ordering·gt ↦ y ∷ insert x ys ]
+      elim (cmp x y) [ Ordering·lt ↦ x ∷ y ∷ ys | Ordering·eq ↦ y ∷ ys | Ordering·gt ↦ y ∷ insert x ys ]
 
   unfoldable pub canon : List A → List A
   canon [] = []

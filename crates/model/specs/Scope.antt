@@ -1,5 +1,5 @@
--- Which variables belong to a block, and which it uses from outside (01, "A variable belongs to the one block where it stands
--- as kind 2; a fixed variable is a variable of a proper ancestor").
+-- Which variables belong to a block, and which it uses from outside (01, "A variable belongs to the one block where
+-- it stands as kind 2; a fixed variable is a variable of a proper ancestor").
 --   owns v b           variable v belongs to block b: it stands there in a relation row
 --   refers v b         v stands in block b as a fixed variable
 --   within n q k j     block j is block k, or at most n levels below it
@@ -23,7 +23,8 @@ unfoldable pub owns : ℕ → Block → Bool
 owns v b = inRows (isVar v) (b .relations)
 
 unfoldable pub refers : ℕ → Block → Bool
-refers v b = inRows (isFixed v) (b .relations) || (inConditions (isFixed v) (b .conditions) || any (isFixed v) (b .outputs))
+refers v b =
+    inRows (isFixed v) (b .relations) || (inConditions (isFixed v) (b .conditions) || any (isFixed v) (b .outputs))
 
 unfoldable pub within : ℕ → List Block → ℕ → ℕ → Bool
 within zero q k j = eqb j k

@@ -1,5 +1,5 @@
--- The tables in the data slice (01, "Tables"): word 0 is the number of tables, then come the columns and the rows of each,
--- then the cells, table by table, row by row. No other definition knows where a cell lies.
+-- The tables in the data slice (01, "Tables"): word 0 is the number of tables, then come the columns and the rows of
+-- each, then the cells, table by table, row by row. No other definition knows where a cell lies.
 --   word d i           word i of the slice, 0 past its end
 --   natOf x            a count word as a number, 0 where it is negative
 --   tables d           the number of tables
@@ -65,7 +65,7 @@ between a b (negsuc n) = false
 
 unfoldable pub laidOut : List ℤ → Bool
 laidOut d =
-  between 1 8 (word d 0)
+    between 1 8 (word d 0)
     && leb (1 + 2 * tables d) (length d)
     && all (λ t. between 1 8 (word d (1 + 2 * t)) && between 0 256 (word d (2 + 2 * t))) (range 0 (tables d))
     && eqb (length d) (tableAt d (tables d))
