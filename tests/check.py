@@ -130,6 +130,10 @@ def check_stored():
         same(f"stored/{name}", path.read_bytes(), wanted)
     present = {str(path.relative_to(STORED)) for path in STORED.rglob("*") if path.is_file()}
     same("files under stored/", sorted(present), sorted(files))
+    for name in ("questions", "limits", "random"):
+        for job in fmt.jobs_of(files[f"{name}.stream"]):
+            if len(job.data) > 1_024 or len(job.question) > 4_096 or len(job.plan) > 64:
+                raise Differs(f"a job of {name}.stream is longer than README.md says")
     same("numbers met in limits.stream", numbers_of(files["limits.answers"]), {*range(14)})
     same("numbers met in random.stream", numbers_of(files["random.answers"]), {0, *range(3, 14)})
     return f"{len(files)} stored files, {sum(map(len, files.values())):,} bytes"

@@ -69,7 +69,9 @@ def random_tables(draw):
 
 
 def random_value(draw):
-    return draw.one_of([-1_000_000, 1_000_000, 999_999, -7, 905]) if draw.chance(4) else draw.one_of([-1, 0, 0, 1, 1, 1, 2, 2, 3])
+    if draw.chance(4):
+        return draw.one_of([-1_000_000, 1_000_000, 999_999, -7, 905])
+    return draw.one_of([-1, 0, 0, 1, 1, 1, 2, 2, 3])
 
 
 class QuestionMaker:

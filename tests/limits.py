@@ -128,9 +128,10 @@ def kind_limits():
     numbers = {"RW": {0: 0, 1: 0, 2: 0, 3: 8}, "CD": {1: 0, 2: 0, 3: 8, 4: 7}, "OL": {2: 0, 4: 7}}
     for kind in [0, 1, 2, 3, 4, 5, 16, 255]:
         element = (kind, 1 << 8 if kind == fmt.AGGREGATE else 0)
-        yield f"kind {kind} in RW", job(blocks=[block(rows=[(0, [var(0)]), (0, [element])])]), numbers["RW"].get(kind, 5)
-        yield f"kind {kind} in CD", job(blocks=[block(conditions=[(0, const(0), element)])]), numbers["CD"].get(kind, 5)
-        yield f"kind {kind} in OL", job(blocks=[block(output=[var(0), element])]), numbers["OL"].get(kind, 5)
+        for record, standing in [("RW", block(rows=[(0, [var(0)]), (0, [element])])),
+                                 ("CD", block(conditions=[(0, const(0), element)])),
+                                 ("OL", block(output=[var(0), element]))]:
+            yield f"kind {kind} in {record}", job(blocks=[standing]), numbers[record].get(kind, 5)
 
 
 def record_limits():
@@ -168,8 +169,9 @@ def variable_limits():
         return job(blocks=blocks)
     for what, element, number in [
             ("own", var(2), 0), ("of the parent", var(1), 8), ("of no block", var(9), 8), ("of an uncle", var(3), 8),
-            ("fixed, own", fixed(2), 8), ("fixed, of the parent", fixed(1), 0), ("fixed, of the grandparent", fixed(0), 0),
-            ("fixed, of an uncle", fixed(3), 8), ("fixed, of no block", fixed(9), 8)]:
+            ("fixed, own", fixed(2), 8), ("fixed, of the parent", fixed(1), 0),
+            ("fixed, of the grandparent", fixed(0), 0), ("fixed, of an uncle", fixed(3), 8),
+            ("fixed, of no block", fixed(9), 8)]:
         yield f"variable {what}", family((0, element, const(1))), number
     yield "variable of no relation row put out", family(output=[var(9)]), 8
     siblings = [block(), *(block(0, [(0, [var(own)])], output=[var(own)]) for own in (1, 1))]
@@ -192,7 +194,8 @@ def reference_limits():
             blocks=[block(rows=[(0, [var(0)]), (0, entries)])]), number
     yield "entries missing", patched(job(), lambda q: q.replace(b"RW\0\1", b"RW\0\2")), 5
     for parent, number in [(0, 0), (1, 7), (2, 7), (255, 7)]:
-        yield f"parent {parent} of block 1", job(blocks=[block(), block(parent, [(0, [var(1)])], output=[var(1)])]), number
+        child = block(parent, [(0, [var(1)])], output=[var(1)])
+        yield f"parent {parent} of block 1", job(blocks=[block(), child]), number
     yield "parent 0 of block 0", job(blocks=[block(0)]), 7
     for column, number in [(1, 0), (2, 7), (255, 7)]:
         blocks = j_blocks()
@@ -204,9 +207,10 @@ def reference_limits():
 
 
 def plan_limits():
-    for paths, number in [([(0, 0), (1, 1)], 0), ([(0, 0), (2, 1)], 0), ([(0, 0), (1, 0)], 11), ([(0, 0), (2, 0)], 11),
-                          ([(0, 0), (1, 3)], 11), ([(0, 0), (3, 1)], 11), ([(0, 1), (0, 0)], 11), ([(1, 0), (0, 0)], 11),
-                          ([(2, 0), (0, 0)], 11), ([(0, 0)], 11), ([(0, 0)] * 3, 11)]:
+    for paths, number in [
+            ([(0, 0), (1, 1)], 0), ([(0, 0), (2, 1)], 0), ([(0, 0), (1, 0)], 11), ([(0, 0), (2, 0)], 11),
+            ([(0, 0), (1, 3)], 11), ([(0, 0), (3, 1)], 11), ([(0, 1), (0, 0)], 11), ([(1, 0), (0, 0)], 11),
+            ([(2, 0), (0, 0)], 11), ([(0, 0)], 11), ([(0, 0)] * 3, 11)]:
         yield f"plan {paths}", job(J_TABLES, j_blocks(), paths), number
 
 
@@ -217,7 +221,8 @@ def set_limits():
         return [(2, left), (2, [[1, value] for value in range(16)] + [[2, 99]])]
     cross = [(0, [var(0), var(1)]), (1, [var(0), var(2)])]
     for more, number in [(0, 0), (1, 13)]:
-        yield f"{256 + more} rows", job(pairs(more), [block(rows=cross, output=[var(1), var(2), var(1), var(2)])]), number
+        top = block(rows=cross, output=[var(1), var(2), var(1), var(2)])
+        yield f"{256 + more} rows", job(pairs(more), [top]), number
         child = block(0, cross, output=[var(1), var(2)])
         yield f"{256 + more} rows in a child", job(
             pairs(more), [block(rows=[], output=[fmt.aggregate(0, 1)]), child]), number
