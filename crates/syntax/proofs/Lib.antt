@@ -1,0 +1,6 @@
+pub mod Laws
+pub mod Elements
+pub mod Records
+pub mod Runs
+pub mod Blocks
+pub mod Whole

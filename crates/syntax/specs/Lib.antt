@@ -1,0 +1,3 @@
+-- The question's bytes by place.
+pub mod Places
+pub mod Described
