@@ -5,23 +5,25 @@ use mathlib.Core.Bool.{Bool, true, false, _&&_, not, cond}
 use mathlib.Core.List.{List, [], _∷_, _++_, map}
 use mathlib.Core.Logic.{⊎-elim}
 use mathlib.Core.Path.{_≡_, refl, sym, ap, ap₂, _∙_, subst}
-use lib.Dec.{T, eqb, ltb}
-use lib.ListN.{length, drop, getD, set, take, length-append, List·getD-append}
+use lib.Dec.{leb, T, eqb, ltb}
+use lib.ListN.{length-map, length, drop, getD, set, take, length-append, List·getD-append}
 use lib.Seq.{drop-drop, getD-set-same, getD-set-other}
-use Rattle.syntax.specs.Described.{described}
+use Rattle.syntax.specs.Described.{relationsAt, conditionsAt, elementsAt, described, blocksIn}
 use Rattle.syntax.specs.Places.{headOk, elementsOk, recordEnd, recordOk, noBlock, block, blockWithin, put, walk}
 use Rattle.syntax.specs.Places.{noQuestion, reading, wellFormed}
 use Rattle.syntax.specs.declared.Block.{Block}
 use Rattle.syntax.specs.declared.Question.{Question}
 use Rattle.model.proofs.RecordEquations.{ends-nil, ends-cons, question-malformed, question-unended, question-read}
 use Rattle.model.proofs.RecordEquations.{wellFormed-is, questionOf-is}
+use Rattle.model.specs.Checks.{fromTo}
+use Rattle.model.specs.Lists.{all}
 use Rattle.model.specs.Records.{BK, EN, marked, ends}
 use Rattle.syntax.proofs.Blocks.{not-there, block-reads}
 use Rattle.syntax.proofs.Elements.{le-or, nil-at, cons-at}
 use Rattle.syntax.proofs.Laws.{on, block-bare, record-whole, put-long}
 use Rattle.syntax.proofs.Records.{marked-long, head-is, record-marked}
 use Rattle.syntax.proofs.Runs.{listAt, countFrom, stopFrom, marked-other, Many, all-read, broken, many-run}
-use borrow.Author.Tests.{eq-eqb, ne-eqb, ltb-true, ltb-false, eqb-true, eqb-false}
+use borrow.Author.Tests.{lt-leb, le-ltb, le-leb, lt-ltb, eq-eqb, ne-eqb, ltb-true, ltb-false, eqb-true, eqb-false}
 use Rattle.model.specs.Question as model
 use Rattle.model.specs.Records as records
 
@@ -58,12 +60,12 @@ module _ (bs : List ℕ) where
     pub count : q .count ≡ length l
     pub long : length (q .blocks) ≡ 5
     pub first : (k : ℕ) → k < 5 → k < length l → getD (q .blocks) k noBlock ≡ getD l k noBlock
-    pub within : q .within ≡ Rattle.model.specs.Lists.all blockWithin l
+    pub within : q .within ≡ all blockWithin l
 
   all-last : (l : List Block) (b : Block)
-      → Rattle.model.specs.Lists.all blockWithin (l ++ (b ∷ [])) ≡ Rattle.model.specs.Lists.all blockWithin l
+      → all blockWithin (l ++ (b ∷ [])) ≡ all blockWithin l
       && blockWithin b
-  unfolding Rattle.model.specs.Lists.all
+  unfolding all
   all-last [] b = and-true (blockWithin b)
     where
       and-true : (t : Bool) → t && true ≡ t
@@ -157,13 +159,13 @@ module _ (bs : List ℕ) where
   allBlocks = blocksFrom (length bs) 0
 
   pub reading-holds : Holds (reading bs) allBlocks
-  unfolding reading Rattle.model.specs.Lists.all
+  unfolding reading all
   reading-holds =
       walk-holds (length bs) noQuestion []
       (record { count = refl; long = refl; first = λ k h l. absurd (omega arith); within = refl }) .0
 
   reading-end : reading bs .end ≡ stopFrom standsAt endAt (length bs) 0
-  unfolding reading Rattle.model.specs.Lists.all
+  unfolding reading all
   reading-end =
       walk-holds (length bs) noQuestion []
       (record { count = refl; long = refl; first = λ k h l. absurd (omega arith); within = refl }) .1
@@ -267,3 +269,68 @@ reading-blocks bs few =
     let h = reading-holds bs in let n = h .count in let five = h .long in
     ap (λ k. take k (reading bs .blocks)) (h .count)
     ∙ take-places (allBlocks bs) (reading bs .blocks) 5 (omega arith) (omega arith) (h .first)
+
+-- the model's question is what the kept descriptions tell of, where there are at most five blocks
+pub read-is : (bs : List ℕ) → records.wellFormed bs ≡ true → reading bs .count ≤ 5
+    → records.questionOf bs ≡ blocksIn bs (reading bs)
+unfolding blocksIn
+read-is bs w few = question-is bs w ∙ ap (map (described bs)) (sym (reading-blocks bs few))
+
+-- and it has as many blocks as were read
+pub count-is : (bs : List ℕ) → records.wellFormed bs ≡ true → length (records.questionOf bs) ≡ reading bs .count
+count-is bs w =
+    ap length (question-is bs w) ∙ length-map (allBlocks bs) (described bs) ∙ sym (reading-holds bs .count)
+
+-- the counts of a block's description are those of its records
+relations-length : (bs : List ℕ) (n i : ℕ) → length (relationsAt bs n i) ≡ n
+unfolding relationsAt
+relations-length bs zero i = refl
+relations-length bs (suc n) i = ap suc (relations-length bs n (recordEnd 0 bs i))
+
+conditions-length : (bs : List ℕ) (n i : ℕ) → length (conditionsAt bs n i) ≡ n
+unfolding conditionsAt
+conditions-length bs zero i = refl
+conditions-length bs (suc n) i = ap suc (conditions-length bs n (recordEnd 1 bs i))
+
+pub elements-length : (bs : List ℕ) (n i : ℕ) → length (elementsAt bs n i) ≡ n
+unfolding elementsAt
+elements-length bs zero i = refl
+elements-length bs (suc n) i = ap suc (elements-length bs n (i + 9))
+
+-- the limits of 6 on one block
+abbrev pub within : model.Block → Bool
+within b = leb (length (b .relations)) 3 && leb (length (b .conditions)) 8 && fromTo 1 4 (length (b .outputs))
+
+block-within : (bs : List ℕ) (b : Block) → blockWithin b ≡ within (described bs b)
+unfolding described
+block-within bs b =
+    rw (
+      relations-length bs (b .rows) (b .«rows_at»),
+      conditions-length bs (b .conditions) (b .«conditions_at»),
+      elements-length bs (b .outputs) (b .«outputs_at»),
+    )
+    (assoc (ltb (b .rows) 4) (ltb (b .conditions) 9) (ltb 0 (b .outputs)) (ltb (b .outputs) 5)
+    ∙ ap₂ _&&_ (ap₂ _&&_ (below (b .rows) 3) (below (b .conditions) 8))
+    (ap₂ _&&_ (above (b .outputs)) (below (b .outputs) 4)))
+  where
+    assoc : (p q r s : Bool) → p && q && r && s ≡ (p && q) && (r && s)
+    assoc true true true s = refl
+    assoc true true false s = refl
+    assoc true false r s = refl
+    assoc false q r s = refl
+
+    below : (n m : ℕ) → ltb n (suc m) ≡ leb n m
+    below n m = ⊎-elim (λ h. lt-ltb n (suc m) (omega arith) ∙ sym (le-leb n m h))
+        (λ h. le-ltb n (suc m) (omega arith) ∙ sym (lt-leb n m h)) (le-or n m)
+
+    above : (n : ℕ) → ltb 0 n ≡ leb 1 n
+    above n = ⊎-elim (λ h. lt-ltb 0 n h ∙ sym (le-leb 1 n h)) (λ h. le-ltb 0 n (omega arith) ∙ sym (lt-leb 1 n h))
+        (le-or 1 n)
+
+pub within-is : (bs : List ℕ) → records.wellFormed bs ≡ true → reading bs .within ≡ all within (records.questionOf bs)
+unfolding all
+within-is bs w = reading-holds bs .within ∙ go (allBlocks bs) ∙ ap (all within) (sym (question-is bs w))
+  where
+    go : (l : List Block) → all blockWithin l ≡ all within (map (described bs) l)
+    go [] = refl
+    go (b ∷ l) = ap₂ _&&_ (block-within bs b) (go l)

@@ -3,10 +3,13 @@
 --   relationAt bs i        the relation row whose mark stands at i; relationsAt bs n i: n of them
 --   conditionAt bs i       the condition whose mark stands at i; conditionsAt bs n i: n of them
 --   described bs b         the block that description b tells of
+--   blocksIn bs q          the question that the descriptions kept in q tell of
 use Prim.Native.Nat.{ℕ, zero, suc, _+_}
-use mathlib.Core.List.{List, [], _∷_}
+use mathlib.Core.List.{List, [], _∷_, map}
+use lib.ListN.{take}
 use Rattle.syntax.specs.Places.{byteAt, wordAt, recordEnd}
 use Rattle.syntax.specs.declared.Block.{Block}
+use Rattle.syntax.specs.declared.Question.{Question}
 use Rattle.model.specs.Format.{signed}
 use Rattle.model.specs.Question.{Element, empty, constant, variable, fixed, aggregate, RelationRow, Condition}
 use Rattle.model.specs.Question as model
@@ -48,3 +51,6 @@ described bs b =
       conditions = conditionsAt bs (b .conditions) (b .«conditions_at»);
       outputs = elementsAt bs (b .outputs) (b .«outputs_at»);
     }
+
+unfoldable pub blocksIn : List ℕ → Question → List model.Block
+blocksIn bs q = map (described bs) (take (q .count) (q .blocks))
