@@ -4,6 +4,7 @@ under questions/ are written by hand and never rewritten.
 """
 
 import itertools
+import subprocess
 import sys
 from pathlib import Path as FilePath
 
@@ -27,6 +28,7 @@ STORED = HERE / "stored"
 JOBS_SEED, JOBS = 4747, 260
 INDEX_SEED, INDEX_CALLS = 474, 60
 MOST_PLANS = 24
+PROGRAMS = {"value_expected.py": "value_test"}
 
 
 class Differs(Exception):
@@ -222,8 +224,16 @@ def check_sqlite():
     return f"{questions} questions, {plans} plans"
 
 
-CHECKS = [check_questions, check_edges, check_limits, check_faults, check_stored, check_round_trip, check_plans,
-          check_sqlite]
+def check_programs():
+    """What the test programs are held to is what the scripts beside this one compute apart from them."""
+    for script, crate in PROGRAMS.items():
+        run = subprocess.run([sys.executable, HERE / script], capture_output=True, text=True, check=True)
+        same(f"crates/{crate}/stdout", run.stdout, (HERE.parent / "crates" / crate / "stdout").read_text())
+    return f"{len(PROGRAMS)} programs' outputs"
+
+
+CHECKS = [check_programs, check_questions, check_edges, check_limits, check_faults, check_stored, check_round_trip,
+          check_plans, check_sqlite]
 
 
 def write():

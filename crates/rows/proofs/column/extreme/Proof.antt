@@ -1,0 +1,124 @@
+-- `column::extreme` meets its contract: `Choosing` holds before each turn. Assumes nothing.
+use Prim.Native.Nat.{_-_}
+use native.Mathlib.Omega.{arith}
+use mathlib.Core.Path.{sym, _∙_}
+use borrow.Author.Tests.{not-true, not-false}
+use lib.ListN.{length}
+use Rattle.rows.specs.Words.{roomOf}
+use Rattle.rows.proofs.ExtremeLoop.{Choosing, choosing-begin, choosing-refused, choosing-more, choosing-stop}
+use Rattle.rows.proofs.ExtremeLoop.{choosing-end}
+use Rattle.rows.proofs.ColumnLaws.{column-fits}
+use Rattle.rows.proofs.CaseLaws.{product-few}
+use Rattle.rows.proofs.column.extreme.Statement.{statement}
+use Rattle.rows.proofs.column.extreme.Tie as tie
+
+abbrev Inv-loop : tie.InvT-loop
+Inv-loop words n count c greatest best₀ j₀ r₀ best j r = Choosing n words c count greatest best j r
+
+abbrev μ-loop : tie.MeasureT-loop
+μ-loop words n count c greatest best₀ j₀ r₀ best j r = count - r
+
+get-requires : tie.Need-get-requires Inv-loop μ-loop
+get-requires c κs =
+    let a = c .args in
+    column-fits (a .n) (a .count) (a .c) 0 (roomOf (length (a .words .now))) (a .c) (c .pre .3) (c .pre .2) (c .pre .4)
+    (omega arith)
+
+inside-requires : tie.Need-inside-requires Inv-loop μ-loop
+inside-requires c κs = tt
+
+returns : tie.Need-returns Inv-loop μ-loop
+returns c =
+    let a = c .before .before .before .args in
+    let outside = sym (c .before .inside .ensures) ∙ not-true _ (c .if1 .taken) in
+    choosing-refused (a .n) (a .words .now) (a .c) (a .count) (a .greatest) (c .before .before .before .pre .3)
+    (c .before .before .get .result) (c .before .before .get .ensures) outside
+
+add-j : tie.Need-add-j Inv-loop μ-loop
+add-j c = omega arith
+
+loop-holds : tie.Need-loop-holds Inv-loop μ-loop
+loop-holds c =
+    let a = c .before .before .before .args in
+    let inside = sym (c .before .inside .ensures) ∙ not-false _ (c .if1 .left) in
+    choosing-begin (a .n) (a .words .now) (a .c) (a .count) (a .greatest) (c .before .before .before .pre .3)
+    (c .before .before .get .result) (c .before .before .get .ensures) inside
+
+get-requires-2 : tie.Need-get-requires-2 Inv-loop μ-loop
+get-requires-2 c κs =
+    let a = c .before .before .before .before .before .args in
+    let l = c .before .loop in
+    column-fits (a .n) (a .count) (a .c) (l .r) (roomOf (length (a .words .now))) (l .j) (c .loop-test .taken)
+    (c .before .before .before .before .before .pre .2) (c .before .before .before .before .before .pre .4)
+    (l .inv .place)
+
+inside-requires-2 : tie.Need-inside-requires-2 Inv-loop μ-loop
+inside-requires-2 c κs = tt
+
+returns-2 : tie.Need-returns-2 Inv-loop μ-loop
+returns-2 c =
+    let a = c .before .before .before .before .before .before .before .before .args in
+    let l = c .before .before .before .before .loop in
+    let outside = sym (c .before .inside2 .ensures) ∙ not-true _ (c .if2 .taken) in
+    choosing-stop (a .n) (a .words .now) (a .c) (a .count) (a .greatest) (l .best) (l .j) (l .r) (l .inv)
+    (c .before .before .before .loop-test .taken) (c .before .before .get2 .result)
+    (c .before .before .get2 .ensures) outside
+
+better-requires : tie.Need-better-requires Inv-loop μ-loop
+better-requires c κs = tt
+
+add-j-2 : tie.Need-add-j-2 Inv-loop μ-loop
+add-j-2 c =
+    let a = c .before .before .before .before .before .before .before .before .before .args in
+    let l = c .before .before .before .before .before .loop in
+    let lt = c .before .before .before .before .loop-test .taken in
+    omega (
+      arith,
+      product-few (l .r) (a .n) 256 (omega arith)
+          (c .before .before .before .before .before .before .before .before .before .pre .0),
+      l .inv .place,
+    )
+
+add-r : tie.Need-add-r Inv-loop μ-loop
+add-r c = omega arith
+
+loop-less : tie.Need-loop-less Inv-loop μ-loop
+loop-less c = omega arith
+
+loop-again : tie.Need-loop-again Inv-loop μ-loop
+loop-again c =
+    let a = c .before .before .before .before .before .before .before .before .before .args in
+    let l = c .before .before .before .before .before .loop in
+    let inside = sym (c .before .before .inside2 .ensures) ∙ not-false _ (c .before .if2 .left) in
+    choosing-more (a .n) (a .words .now) (a .c) (a .count) (a .greatest) (l .best) (l .j) (l .r) (l .inv)
+    (c .before .before .before .before .loop-test .taken) (c .before .before .before .get2 .result)
+    (c .before .before .before .get2 .ensures) inside
+    (c .better .result) (c .better .ensures)
+
+returns-3 : tie.Need-returns-3 Inv-loop μ-loop
+returns-3 c =
+    let a = c .before .before .before .before .before .args in
+    let l = c .before .loop in
+    choosing-end (a .n) (a .words .now) (a .c) (a .count) (a .greatest) (l .best) (l .j) (l .r) (l .inv)
+    (c .loop-test .left)
+
+pub extreme-spec : {M : Type 1} → statement M
+extreme-spec =
+    tie.close
+    (tie.spec
+    Inv-loop
+    μ-loop
+    get-requires
+    inside-requires
+    returns
+    add-j
+    loop-holds
+    get-requires-2
+    inside-requires-2
+    returns-2
+    better-requires
+    add-j-2
+    add-r
+    loop-less
+    loop-again
+    returns-3)

@@ -1,0 +1,5 @@
+pub mod Words
+pub mod Encoding
+pub mod Insertion
+pub mod Columns
+pub mod Folds

@@ -1,0 +1,48 @@
+// Values and words moved, copied and cleared.
+use crate::words;
+ghost use mathlib.Core.Path.{_≡_};
+ghost use mathlib.Core.List.{_++_};
+ghost use Prim.Native.Nat.{_+_, _≤_};
+ghost use lib.ListN.{length, drop, replicate};
+ghost use lib.Seq.{paste};
+ghost use lib.IntN.{pos};
+ghost use Rattle.rows.specs.Words.{roomOf, wordsOf};
+ghost use Rattle.rows.specs.Insertion.{shifted};
+
+// The values from place p to place e moved up by m places, the last first.
+pub(crate) fn shift(words: &mut [i64], p: usize, e: usize, m: usize)
+    requires { ⌜ (p ≤ e) × (e + m ≤ roomOf (length (now words))) ⌝ }
+    ensures { λ _. ⌜ now (words .exit) ≡ shifted (wordsOf p) (wordsOf e) (wordsOf m) (now (words .entry)) ⌝ }
+{
+    let mut j: usize = e;
+    while p < j {
+        j -= 1;
+        let v = words::get(words, j);
+        words::put(words, j + m, v);
+    }
+}
+
+// The first m values of a row put at place p.
+pub(crate) fn put_row(words: &mut [i64], p: usize, row: &[i64], m: usize)
+    requires { ⌜ (p + m ≤ roomOf (length (now words))) × (m ≤ roomOf (length (now row))) ⌝ }
+    ensures { λ _. ⌜ now (words .exit) ≡ paste (now (words .entry)) (wordsOf p) (now (row .entry)) (wordsOf m) ⌝ }
+{
+    let mut j: usize = 0;
+    while j < m {
+        let v = words::get(row, j);
+        words::put(words, p + j, v);
+        j += 1;
+    }
+}
+
+// The first n words made zero.
+pub(crate) fn clear(words: &mut [i64], n: usize)
+    requires { ⌜ n ≤ length (now words) ⌝ }
+    ensures { λ _. ⌜ now (words .exit) ≡ replicate n (pos 0) ++ drop n (now (words .entry)) ⌝ }
+{
+    let mut i: usize = 0;
+    while i < n {
+        words[i] = 0;
+        i += 1;
+    }
+}

@@ -1,0 +1,182 @@
+-- Values in words: what the bounds give, the machine's tests as the model's order, order and operators by their cases.
+-- Assumes nothing.
+use Prim.Native.Nat.{ℕ, zero, suc, _^_, _<_, _≤_, compare, Ordering, Ordering·lt, Ordering·eq, Ordering·gt}
+use Prim.Native.Nat.{compare·suc-suc, compare·zero-suc, compare·suc-zero}
+use native.Mathlib.Nat.{lt-of-le-of-lt}
+use native.Mathlib.Omega.{arith}
+use mathlib.Core.Bool.{Bool, true, false, _&&_, cond}
+use mathlib.Core.Path.{_≡_, refl, sym, _∙_, ap₂, subst}
+use mir.Syntax.{w64}
+use mir.Val.{SFits, toZ, ofZ}
+use borrow.Author.Tests.{ltb-true, ltb-false, le-leb}
+use lib.Dec.{T, leb, leb→le, lit<}
+use lib.IntN.{ℤ, pos, negsuc, natAbs, _*ℤ_}
+use lib.Signed.{ltZ, leZ}
+use Rattle.model.specs.Value as model
+use Rattle.model.specs.Value.{compareZ, order, testOf}
+use Rattle.model.proofs.ValueLaws.{compare-self}
+use Rattle.value.specs.declared.Value.{Value}
+use Rattle.value.specs.declared.Compared.{Compared}
+use Rattle.value.specs.declared.Compared.the-variants.{Less, Equal, Greater, Outside}
+use Rattle.value.specs.declared.Verdict.{Verdict}
+use Rattle.value.specs.declared.Verdict.the-variants as verdict
+use Rattle.value.specs.Exact.{exact, inWords, insideOf, Fair, tell, orderOf, holdsOf, says}
+use Rattle.value.proofs.Ints.{abs-mul-le, sfits-abs, read-back}
+
+-- what the bounds give
+pub record Inside (v : Value) : Type 0 where
+  pub num : natAbs (v .num) ≤ 1000000000000000
+  pub den : natAbs (v .den) ≤ 256
+  pub positive : 0 < natAbs (v .den)
+  pub sign : pos (natAbs (v .den)) ≡ v .den
+
+pub both : (a b : Bool) → T (a && b) → T a × T b
+both true true t = (tt, tt)
+
+fair : (d : ℤ) → T (leZ (pos 1) d) → T (leZ d (pos 256)) → (natAbs d ≤ 256) × (0 < natAbs d) × (pos (natAbs d) ≡ d)
+fair (pos n) l u = (leb→le n 256 u, leb→le 1 n l, refl)
+
+pub inside-is : (v : Value) → T (insideOf v) → Inside v
+unfolding insideOf
+inside-is v t =
+    let p = both (leb (natAbs (v .num)) 1000000000000000) (leZ (pos 1) (v .den) && leZ (v .den) (pos 256)) t in
+    let q = both (leZ (pos 1) (v .den)) (leZ (v .den) (pos 256)) (p .1) in
+    let f = fair (v .den) (q .0) (q .1) in
+    record { num = leb→le (natAbs (v .num)) 1000000000000000 (p .0); den = f .0; positive = f .1; sign = f .2 }
+
+pub inside-num : (v : Value) → leb (natAbs (v .num)) 1000000000000000 ≡ false → insideOf v ≡ false
+unfolding insideOf
+inside-num v e = simp e
+
+pub inside-low : (v : Value) → leb (natAbs (v .num)) 1000000000000000 ≡ true → leZ (pos 1) (v .den) ≡ false
+    → insideOf v ≡ false
+unfolding insideOf
+inside-low v e f = simp (e, f)
+
+pub inside-high : (v : Value) → leb (natAbs (v .num)) 1000000000000000 ≡ true → leZ (pos 1) (v .den) ≡ true
+    → insideOf v ≡ leZ (v .den) (pos 256)
+unfolding insideOf
+inside-high v e f = simp (e, f)
+
+-- the tests as the model's order
+compare-lt : (m n : ℕ) → m < n → compare m n ≡ Ordering·lt
+compare-lt zero zero h = absurd (omega arith)
+compare-lt zero (suc n) h = compare·zero-suc n
+compare-lt (suc m) zero h = absurd (omega arith)
+compare-lt (suc m) (suc n) h = compare·suc-suc m n ∙ compare-lt m n (omega arith)
+
+compare-gt : (m n : ℕ) → n < m → compare m n ≡ Ordering·gt
+compare-gt zero n h = absurd (omega arith)
+compare-gt (suc m) zero h = compare·suc-zero m
+compare-gt (suc m) (suc n) h = compare·suc-suc m n ∙ compare-gt m n (omega arith)
+
+compare-eq : (m n : ℕ) → n ≤ m → m ≤ n → compare m n ≡ Ordering·eq
+compare-eq m n h k = let e : m ≡ n = omega arith in rw e (compare-self n)
+
+pub is-less : (a b : ℤ) → ltZ a b ≡ true → compareZ a b ≡ Ordering·lt
+unfolding compareZ
+is-less (pos m) (pos n) e = compare-lt m n (ltb-true m n e)
+is-less (pos m) (negsuc n) e = absurd (subst T (sym e) tt)
+is-less (negsuc m) (pos n) e = refl
+is-less (negsuc m) (negsuc n) e = compare-lt n m (ltb-true n m e)
+
+pub is-greater : (a b : ℤ) → ltZ b a ≡ true → compareZ a b ≡ Ordering·gt
+unfolding compareZ
+is-greater (pos m) (pos n) e = compare-gt m n (ltb-true n m e)
+is-greater (pos m) (negsuc n) e = refl
+is-greater (negsuc m) (pos n) e = absurd (subst T (sym e) tt)
+is-greater (negsuc m) (negsuc n) e = compare-gt n m (ltb-true m n e)
+
+pub is-equal : (a b : ℤ) → ltZ a b ≡ false → ltZ b a ≡ false → compareZ a b ≡ Ordering·eq
+unfolding compareZ
+is-equal (pos m) (pos n) e f = compare-eq m n (ltb-false m n e) (ltb-false n m f)
+is-equal (pos m) (negsuc n) e f = absurd (subst T f tt)
+is-equal (negsuc m) (pos n) e f = absurd (subst T e tt)
+is-equal (negsuc m) (negsuc n) e f = compare-eq n m (ltb-false n m e) (ltb-false m n f)
+
+-- a product of a numerator and a denominator
+module _ (n d : ℤ) (p : natAbs n ≤ 1000000000000000) (q : natAbs d ≤ 256) where
+  operands : toZ w64 (ofZ w64 n) *ℤ toZ w64 (ofZ w64 d) ≡ n *ℤ d
+  operands = ap₂ _*ℤ_ (read-back n (lt-of-le-of-lt p (lit< tt))) (read-back d (lt-of-le-of-lt q (lit< tt)))
+
+  product-small : natAbs (n *ℤ d) < 2 ^ 63
+  product-small = lt-of-le-of-lt (abs-mul-le n d p q) (lit< tt)
+
+  pub product-fits : SFits w64 (toZ w64 (ofZ w64 n) *ℤ toZ w64 (ofZ w64 d))
+  product-fits = rw operands (sfits-abs (n *ℤ d) product-small)
+
+  pub product-is : toZ w64 (ofZ w64 (toZ w64 (ofZ w64 n) *ℤ toZ w64 (ofZ w64 d))) ≡ n *ℤ d
+  product-is = rw operands (read-back (n *ℤ d) product-small)
+
+-- two values inside the bounds, their parts passed on
+module _ (x y : Value) (p : T (insideOf x)) (q : T (insideOf y)) where
+  abbrev passed : ℤ → ℤ
+  passed z = toZ w64 (ofZ w64 z)
+
+  num-passed : (v : Value) → T (insideOf v) → passed (v .num) ≡ v .num
+  num-passed v t = read-back (v .num) (lt-of-le-of-lt (inside-is v t .num) (lit< tt))
+
+  den-passed : (v : Value) → T (insideOf v) → passed (v .den) ≡ v .den
+  den-passed v t = read-back (v .den) (lt-of-le-of-lt (inside-is v t .den) (lit< tt))
+
+  pub num-small : natAbs (passed (x .num)) ≤ 1000000000000000
+  num-small = rw (num-passed x p) (inside-is x p .num)
+
+  pub den-small : natAbs (passed (y .den)) ≤ 256
+  den-small = rw (den-passed y q) (inside-is y q .den)
+
+  pub crossed : compareZ (passed (x .num) *ℤ passed (y .den)) (passed (y .num) *ℤ passed (x .den))
+      ≡ order (exact x) (exact y)
+  unfolding order
+  crossed =
+      ap₂ compareZ (ap₂ _*ℤ_ (num-passed x p) (den-passed y q)) (ap₂ _*ℤ_ (num-passed y q) (den-passed x p))
+      ∙ sym (ap₂ (λ d e. compareZ (x .num *ℤ d) (y .num *ℤ e)) (inside-is y q .sign) (inside-is x p .sign))
+
+abbrev pub judge : ℕ → Compared → Verdict
+judge op Less = says (testOf op Ordering·lt)
+judge op Equal = says (testOf op Ordering·eq)
+judge op Greater = says (testOf op Ordering·gt)
+judge op Outside = verdict.Outside
+
+-- the order, by where the values are
+module _ (x y : Value) where
+  pub order-left : insideOf x ≡ false → orderOf x y ≡ Outside
+  unfolding orderOf
+  order-left e = simp e
+
+  pub order-right : insideOf x ≡ true → insideOf y ≡ false → orderOf x y ≡ Outside
+  unfolding orderOf
+  order-right e f = simp (e, f)
+
+  pub order-inside : insideOf x ≡ true → insideOf y ≡ true → orderOf x y ≡ tell (order (exact x) (exact y))
+  unfolding orderOf
+  order-inside e f = simp (e, f)
+
+  -- an operator, by the order
+  pub holds-by : (op : ℕ) → holdsOf op x y ≡ judge op (orderOf x y)
+  unfolding holdsOf orderOf model.meets
+  holds-by op = go (insideOf x && insideOf y) (order (exact x) (exact y))
+    where
+      go : (t : Bool) (c : Ordering) → cond t (says (testOf op c)) verdict.Outside ≡ judge op (cond t (tell c) Outside)
+      go true Ordering·lt = refl
+      go true Ordering·eq = refl
+      go true Ordering·gt = refl
+      go false c = refl
+
+-- ---- values of the model within the bounds
+pub fair-inside : (v : model.Value) → Fair v → insideOf (inWords v) ≡ true
+unfolding insideOf
+fair-inside v f =
+    simp (
+      le-leb (natAbs (v .num)) 1000000000000000 (f .num),
+      le-leb 1 (v .den) (f .positive),
+      le-leb (v .den) 256 (f .den),
+    )
+
+pub fair-order : (v w : model.Value) → Fair v → Fair w → orderOf (inWords v) (inWords w) ≡ tell (order v w)
+fair-order v w f g = order-inside (inWords v) (inWords w) (fair-inside v f) (fair-inside w g)
+
+pub fair-holds : (op : ℕ) (v w : model.Value) → Fair v → Fair w
+    → holdsOf op (inWords v) (inWords w) ≡ says (model.meets op v w)
+unfolding holdsOf
+fair-holds op v w f g = simp (fair-inside v f, fair-inside w g)

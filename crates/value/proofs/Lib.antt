@@ -1,0 +1,7 @@
+-- Other crates cite Laws (bounds, order, operators), Averaging, and Ints (sizes of sums and products); the rest serve
+-- these.
+pub mod Ints
+pub mod Euclid
+pub mod Laws
+pub mod Operators
+pub mod Averaging

@@ -1,0 +1,88 @@
+-- `holds` meets its contract, order by order. Assumes nothing.
+use mathlib.Core.Path.{sym, _∙_, ap}
+use Rattle.value.specs.Exact.{says}
+use Rattle.value.proofs.Laws.{judge, holds-by}
+use borrow.Author.Needs.{needs}
+use Rattle.value.proofs.holds.Statement.{statement}
+use Rattle.value.proofs.holds.Tie as tie
+
+order-requires : tie.Need-order-requires
+order-requires c κs = search needs
+
+enum-told : tie.Need-enum-told
+enum-told c = search needs
+
+when-less-requires : tie.Need-when-less-requires
+when-less-requires c κs = search needs
+
+answer-requires : tie.Need-answer-requires
+answer-requires c κs = search needs
+
+enum-told-2 : tie.Need-enum-told-2
+enum-told-2 c = search needs
+
+when-equal-requires : tie.Need-when-equal-requires
+when-equal-requires c κs = search needs
+
+answer-requires-2 : tie.Need-answer-requires-2
+answer-requires-2 c κs = search needs
+
+enum-told-3 : tie.Need-enum-told-3
+enum-told-3 c = search needs
+
+when-greater-requires : tie.Need-when-greater-requires
+when-greater-requires c κs = search needs
+
+answer-requires-3 : tie.Need-answer-requires-3
+answer-requires-3 c κs = search needs
+
+enum-told-4 : tie.Need-enum-told-4
+enum-told-4 c = search needs
+
+returns : tie.Need-returns
+returns c =
+    let a = c .before .before .before .before .before .args in
+    let by = holds-by (a .x) (a .y) (a .op) in
+    let o = sym (c .before .before .before .before .order .ensures) ∙ c .before .before .enum-told .given .1 in
+    c .answer .ensures ∙ ap says (c .before .when-less .ensures) ∙ sym (by ∙ ap (judge (a .op)) o)
+
+returns-2 : tie.Need-returns-2
+returns-2 c =
+    let a = c .before .before .before .before .before .args in
+    let by = holds-by (a .x) (a .y) (a .op) in
+    let o = sym (c .before .before .before .before .order .ensures) ∙ c .before .before .enum-told2 .given .1 in
+    c .answer2 .ensures ∙ ap says (c .before .when-equal .ensures) ∙ sym (by ∙ ap (judge (a .op)) o)
+
+returns-3 : tie.Need-returns-3
+returns-3 c =
+    let a = c .before .before .before .before .before .args in
+    let by = holds-by (a .x) (a .y) (a .op) in
+    let o = sym (c .before .before .before .before .order .ensures) ∙ c .before .before .enum-told3 .given .1 in
+    c .answer3 .ensures ∙ ap says (c .before .when-greater .ensures) ∙ sym (by ∙ ap (judge (a .op)) o)
+
+returns-4 : tie.Need-returns-4
+returns-4 c =
+    let a = c .before .before .before .args in
+    let by = holds-by (a .x) (a .y) (a .op) in
+    let o = sym (c .before .before .order .ensures) ∙ c .enum-told4 .given .1 in
+    sym (by ∙ ap (judge (a .op)) o)
+
+pub holds-spec : {M : Type 1} → statement M
+holds-spec =
+    tie.close
+    (tie.spec
+    order-requires
+    enum-told
+    when-less-requires
+    answer-requires
+    enum-told-2
+    when-equal-requires
+    answer-requires-2
+    enum-told-3
+    when-greater-requires
+    answer-requires-3
+    enum-told-4
+    returns
+    returns-2
+    returns-3
+    returns-4)

@@ -1,0 +1,59 @@
+-- Values in 64-bit words, and what they mean in the model.
+--   exact v            the model's value of v; inWords v: a value of the model in words
+--   insideOf v         |num| ≤ 10^15 and 1 ≤ den ≤ 256: there a cross product is exact in 64 bits
+--   Fair v             the same of a value of the model
+--   tell o, says b     the model's order, a truth, as answers
+--   orderOf x y        the model's order inside the bounds, Outside elsewhere
+--   holdsOf o x y      whether x and y meet operator o, Outside where one is outside the bounds
+--   lowestOf n d       n / d in lowest terms
+--   averageOf s n      s over n in lowest terms; zero where n is 0; Outside for n > 256 or |s| > 256 × 10^15
+use Prim.Native.Nat.{ℕ, zero, suc, _≤_, Ordering, Ordering·lt, Ordering·eq, Ordering·gt}
+use mathlib.Core.Bool.{Bool, true, false, _&&_, cond}
+use lib.Dec.{leb}
+use lib.IntN.{ℤ, pos, natAbs}
+use lib.Signed.{leZ}
+use Rattle.model.specs.Value as model
+use Rattle.value.specs.declared.Value.{Value}
+use Rattle.value.specs.declared.Compared.{Compared}
+use Rattle.value.specs.declared.Compared.the-variants.{Less, Equal, Greater, Outside}
+use Rattle.value.specs.declared.Verdict.{Verdict}
+use Rattle.value.specs.declared.Verdict.the-variants as verdict
+use Rattle.value.specs.declared.Mean.{Mean}
+use Rattle.value.specs.declared.Mean.the-variants as mean
+
+abbrev pub exact : Value → model.Value
+exact v = record { num = v .num; den = natAbs (v .den) }
+
+abbrev pub inWords : model.Value → Value
+inWords v = record { num = v .num; den = pos (v .den) }
+
+unfoldable pub insideOf : Value → Bool
+insideOf v = leb (natAbs (v .num)) 1000000000000000 && (leZ (pos 1) (v .den) && leZ (v .den) (pos 256))
+
+pub record Fair (v : model.Value) : Type 0 where
+  pub num : natAbs (v .num) ≤ 1000000000000000
+  pub positive : 1 ≤ v .den
+  pub den : v .den ≤ 256
+
+abbrev pub tell : Ordering → Compared
+tell Ordering·lt = Less
+tell Ordering·eq = Equal
+tell Ordering·gt = Greater
+
+unfoldable pub orderOf : Value → Value → Compared
+orderOf x y = cond (insideOf x && insideOf y) (tell (model.order (exact x) (exact y))) Outside
+
+abbrev pub says : Bool → Verdict
+says true = verdict.Yes
+says false = verdict.No
+
+unfoldable pub holdsOf : ℕ → Value → Value → Verdict
+holdsOf o x y = cond (insideOf x && insideOf y) (says (model.meets o (exact x) (exact y))) verdict.Outside
+
+abbrev pub lowestOf : ℤ → ℕ → Value
+lowestOf n d = inWords (model.ratio n d)
+
+unfoldable pub averageOf : ℤ → ℕ → Mean
+averageOf s zero = mean.Of (inWords model.zeroValue)
+averageOf s (suc n) =
+    cond (leb (suc n) 256 && leb (natAbs s) 256000000000000000) (mean.Of (lowestOf s (suc n))) mean.Outside

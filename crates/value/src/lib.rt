@@ -1,0 +1,213 @@
+// Exact values (01, "Values are whole or ratio"; "Comparison and equality are exact"): a numerator over a denominator,
+// compared by cross products in 64 bits.
+//
+// Two values are compared where both are inside the bounds: numerator at most 10^15 in size, denominator 1 to 256. Each
+// value of an evaluated set is so (rows: proofs/FairSets.antt). Elsewhere the answer is Outside. Every average is in
+// lowest terms with a positive denominator; zero is 0/1.
+ghost use mathlib.Core.Path.{_≡_};
+ghost use Prim.Native.Nat.{_*_, _<_, _≤_, Ordering·lt, Ordering·eq, Ordering·gt};
+ghost use lib.Dec.{leb};
+ghost use lib.IntN.{pos, natAbs, _*ℤ_};
+ghost use lib.Signed.{leZ};
+ghost use Rattle.model.specs.Value.{gcd, testOf, compareZ};
+ghost use Rattle.value.specs.Exact.{insideOf, orderOf, tell, holdsOf, says, averageOf, lowestOf};
+
+// A value: num / den.
+pub struct Value {
+    pub num: i64,
+    pub den: i64,
+}
+
+// The order of two values.
+pub enum Compared {
+    Less,
+    Equal,
+    Greater,
+    Outside,
+}
+
+// Whether two values meet an operator.
+pub enum Verdict {
+    Yes,
+    No,
+    Outside,
+}
+
+// An average.
+pub enum Mean {
+    Of(Value),
+    Outside,
+}
+
+// The greatest common divisor, by Euclid's recursion: the second number falls at each call.
+pub fn gcd(a: u64, b: u64) -> u64
+    ensures { λ r. ⌜ r ≡ gcd a b ⌝ }
+{
+    if b == 0 { a } else { gcd(b, a % b) }
+}
+
+// At most 10^15 in size.
+fn small(t: i64) -> bool
+    ensures { λ r. ⌜ r ≡ leb (natAbs t) 1000000000000000 ⌝ }
+{
+    if t < -1000000000000000 {
+        return false;
+    }
+    t <= 1000000000000000
+}
+
+// At most 256 × 10^15 in size.
+fn small_sum(t: i64) -> bool
+    ensures { λ r. ⌜ r ≡ leb (natAbs t) 256000000000000000 ⌝ }
+{
+    if t < -256000000000000000 {
+        return false;
+    }
+    t <= 256000000000000000
+}
+
+// A denominator is positive.
+fn at_least_one(d: i64) -> bool
+    ensures { λ r. ⌜ r ≡ leZ (pos 1) d ⌝ }
+{
+    d >= 1
+}
+
+// A denominator is no more than a set can have rows.
+fn at_most_256(d: i64) -> bool
+    ensures { λ r. ⌜ r ≡ leZ d (pos 256) ⌝ }
+{
+    d <= 256
+}
+
+// Inside the bounds: there a cross product fits 64 bits.
+pub fn inside(x: Value) -> bool
+    ensures { λ r. ⌜ r ≡ insideOf x ⌝ }
+{
+    if !small(x.num) {
+        return false;
+    }
+    if !at_least_one(x.den) {
+        return false;
+    }
+    at_most_256(x.den)
+}
+
+// The order of n / d and m / e, by cross products.
+fn cross(n: i64, d: i64, m: i64, e: i64) -> Compared
+    requires { ⌜ (natAbs n ≤ 1000000000000000) × (natAbs e ≤ 256) ⌝ }
+    requires { ⌜ (natAbs m ≤ 1000000000000000) × (natAbs d ≤ 256) ⌝ }
+    ensures { λ r. ⌜ r ≡ tell (compareZ (n *ℤ e) (m *ℤ d)) ⌝ }
+{
+    let a = n * e;
+    let b = m * d;
+    if a < b {
+        return Compared::Less;
+    }
+    if b < a {
+        return Compared::Greater;
+    }
+    Compared::Equal
+}
+
+// The exact order of two values, where both are inside the bounds.
+pub fn order(x: Value, y: Value) -> Compared
+    ensures { λ r. ⌜ r ≡ orderOf x y ⌝ }
+{
+    if !inside(x) {
+        return Compared::Outside;
+    }
+    if !inside(y) {
+        return Compared::Outside;
+    }
+    cross(x.num, x.den, y.num, y.den)
+}
+
+// The operators that a lesser value meets.
+fn when_less(op: u8) -> bool
+    ensures { λ r. ⌜ r ≡ testOf op Ordering·lt ⌝ }
+{
+    match op {
+        1 | 2 | 3 => true,
+        _ => false,
+    }
+}
+
+// The operators that an equal value meets.
+fn when_equal(op: u8) -> bool
+    ensures { λ r. ⌜ r ≡ testOf op Ordering·eq ⌝ }
+{
+    match op {
+        1 | 2 | 4 => false,
+        _ => true,
+    }
+}
+
+// The operators that a greater value meets.
+fn when_greater(op: u8) -> bool
+    ensures { λ r. ⌜ r ≡ testOf op Ordering·gt ⌝ }
+{
+    match op {
+        0 | 2 | 3 => false,
+        _ => true,
+    }
+}
+
+// A truth as a verdict.
+fn answer(yes: bool) -> Verdict
+    ensures { λ r. ⌜ r ≡ says yes ⌝ }
+{
+    if yes { Verdict::Yes } else { Verdict::No }
+}
+
+// Whether two values meet operator op (0 =, 1 ≠, 2 <, 3 ≤, 4 >, 5 and above ≥).
+pub fn holds(op: u8, x: Value, y: Value) -> Verdict
+    ensures { λ r. ⌜ r ≡ holdsOf op x y ⌝ }
+{
+    let o = order(x, y);
+    match o {
+        Compared::Less => answer(when_less(op)),
+        Compared::Equal => answer(when_equal(op)),
+        Compared::Greater => answer(when_greater(op)),
+        Compared::Outside => Verdict::Outside,
+    }
+}
+
+// The size of a number.
+fn magnitude(x: i64) -> u64
+    requires { ⌜ natAbs x ≤ 256000000000000000 ⌝ }
+    ensures { λ r. ⌜ r ≡ natAbs x ⌝ }
+{
+    if x < 0 {
+        return (0 - x) as u64;
+    }
+    x as u64
+}
+
+// A ratio divided through by the greatest common divisor.
+fn lowest(num: i64, den: u64) -> Value
+    requires { ⌜ (natAbs num ≤ 256000000000000000) × (0 < den) × (den ≤ 256) ⌝ }
+    ensures { λ r. ⌜ r ≡ lowestOf num den ⌝ }
+{
+    let g = gcd(magnitude(num), den);
+    Value {
+        num: num / (g as i64),
+        den: (den / g) as i64,
+    }
+}
+
+// A sum over a count, in lowest terms; of nothing, zero.
+pub fn average(sum: i64, count: u64) -> Mean
+    ensures { λ r. ⌜ r ≡ averageOf sum count ⌝ }
+{
+    if count == 0 {
+        return Mean::Of(Value { num: 0, den: 1 });
+    }
+    if count > 256 {
+        return Mean::Outside;
+    }
+    if !small_sum(sum) {
+        return Mean::Outside;
+    }
+    Mean::Of(lowest(sum, count))
+}
