@@ -50,3 +50,4 @@ pub mod ScanEquations
 pub mod TableEquations
 pub mod TrialEquations
 pub mod ValueEquations
+pub mod BisectionLaws

@@ -3,4 +3,5 @@ pub mod Elements
 pub mod Records
 pub mod Runs
 pub mod Blocks
+pub mod Lie
 pub mod Whole

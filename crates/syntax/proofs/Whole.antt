@@ -16,11 +16,12 @@ use Rattle.syntax.specs.declared.Question.{Question}
 use Rattle.model.proofs.RecordEquations.{ends-nil, ends-cons, question-malformed, question-unended, question-read}
 use Rattle.model.proofs.RecordEquations.{wellFormed-is, questionOf-is}
 use Rattle.model.specs.Checks.{fromTo}
-use Rattle.model.specs.Lists.{all}
+use Rattle.model.specs.Lists.{All, all}
 use Rattle.model.specs.Records.{BK, EN, marked, ends}
 use Rattle.syntax.proofs.Blocks.{not-there, block-reads}
 use Rattle.syntax.proofs.Elements.{le-or, nil-at, cons-at}
 use Rattle.syntax.proofs.Laws.{on, block-bare, record-whole, put-long}
+use Rattle.syntax.proofs.Lie.{Lies, block-lies}
 use Rattle.syntax.proofs.Records.{marked-long, head-is, record-marked}
 use Rattle.syntax.proofs.Runs.{listAt, countFrom, stopFrom, marked-other, Many, all-read, broken, many-run}
 use borrow.Author.Tests.{lt-leb, le-ltb, le-leb, lt-ltb, eq-eqb, ne-eqb, ltb-true, ltb-false, eqb-true, eqb-false}
@@ -334,3 +335,24 @@ within-is bs w = reading-holds bs .within ∙ go (allBlocks bs) ∙ ap (all with
     go : (l : List Block) → all blockWithin l ≡ all within (map (described bs) l)
     go [] = refl
     go (b ∷ l) = ap₂ _&&_ (block-within bs b) (go l)
+
+-- the places of every block that was read lie in the bytes
+blocks-lie : (bs : List ℕ) (f i : ℕ) → All (Lies bs) (blocksFrom bs f i)
+unfolding blocksFrom countFrom listAt
+blocks-lie bs zero i = tt
+blocks-lie bs (suc f) i = on (eqb (block bs i .end) 0) done (more (blocks-lie bs f (endAt bs i)))
+  where
+    positive : (m : ℕ) → (m ≡ 0 → ⊥) → 0 < m
+    positive zero h = absurd (h refl)
+    positive (suc m) h = omega arith
+
+    done : eqb (block bs i .end) 0 ≡ true → All (Lies bs) (blocksFrom bs (suc f) i)
+    done e = rw (blocks-done bs f i e) tt
+
+    more : All (Lies bs) (blocksFrom bs f (endAt bs i)) → eqb (block bs i .end) 0 ≡ false
+        → All (Lies bs) (blocksFrom bs (suc f) i)
+    more r e =
+        rw (blocks-more bs f i e) (block-lies bs i (positive (block bs i .end) (eqb-false (block bs i .end) 0 e)), r)
+
+pub all-lie : (bs : List ℕ) → All (Lies bs) (allBlocks bs)
+all-lie bs = blocks-lie bs (length bs) 0

@@ -1,5 +1,18 @@
--- The question's bytes read by place: total functions, and a test beside each.
-use Prim.Native.Nat.{ℕ, zero, suc, _+_, _*_, _/_, _%_, _-_, _^_, _<_, _≤_}
+-- The question's bytes read by place, as the code walks them. That this is the model's reading is proved (proofs/Whole:
+-- `formed-is`, `read-is`, `count-is`, `within-is`); what the descriptions mean is in Described.
+--   byteAt bs i           the byte at place i, 0 past the end; wordAt bs i: the eight bytes from i on, lowest first
+--   itemAt bs i           the element at place i: its kind, its argument as a number and by bytes
+--   takes r k             record r takes kind k; records are 0 RW, 1 CD, 2 OL, 3 BK, 4 EN
+--   argumentOk k a f c z  kind k takes the argument
+--   elementOk r bs i      an element of record r stands at i; elementsOk r bs n i: n of them
+--   headOf r              the bytes of a record before its elements; entriesOf r bs i: how many elements follow
+--   recordOk r bs i       record r stands at i, whole and well formed; recordEnd r bs i: the place after it
+--   run f r bs n i        as many records r as stand from i on, n before them: how many, and where they end
+--   block bs i            the description of the block at i, its end 0 where none stands
+--   blockWithin b         the limits of number 6 on one block
+--   walk f bs q           as many blocks as stand from the end of q on, put into q, which keeps the first five
+--   reading bs            the blocks that stand in bs; wellFormed bs: EN and nothing else follows them
+use Prim.Native.Nat.{ℕ, zero, suc, _+_, _*_, _-_}
 use mathlib.Core.Bool.{Bool, true, false, _&&_, _||_, not, cond}
 use mathlib.Core.List.{List, [], _∷_}
 use lib.Dec.{eqb, ltb, leb}
@@ -76,7 +89,10 @@ recordEnd r bs i = i + headOf r + 9 * entriesOf r bs i
 
 -- a record r stands at i, well formed
 unfoldable pub recordOk : ℕ → List ℕ → ℕ → Bool
-recordOk r bs i = leb (headOf r) (left bs i) && (leb (recordEnd r bs i) (length bs) && (headOk r bs i && elementsOk r bs (entriesOf r bs i) (i + headOf r)))
+recordOk r bs i =
+    leb (headOf r) (left bs i)
+    && (leb (recordEnd r bs i) (length bs)
+    && (headOk r bs i && elementsOk r bs (entriesOf r bs i) (i + headOf r)))
 
 -- as many records r as stand from i on, n of them before: where they end, and how many they are
 unfoldable pub run : ℕ → ℕ → List ℕ → ℕ → ℕ → Run
@@ -87,11 +103,33 @@ abbrev pub runs : ℕ → List ℕ → ℕ → Run
 runs r bs i = run (length bs) r bs 0 i
 
 abbrev pub noBlock : Block
-noBlock = record { parent = 0; «rows_at» = 0; rows = 0; «conditions_at» = 0; conditions = 0; «outputs_at» = 0; outputs = 0; end = 0 }
+noBlock =
+    record {
+      parent = 0;
+      «rows_at» = 0;
+      rows = 0;
+      «conditions_at» = 0;
+      conditions = 0;
+      «outputs_at» = 0;
+      outputs = 0;
+      end = 0;
+    }
 
 -- a block at i, well formed where its end is not 0
 abbrev pub blockWith : List ℕ → ℕ → Run → Run → Block
-blockWith bs i r c = cond (recordOk 2 bs (c .at)) (record { parent = byteAt bs (i + 2); «rows_at» = i + 3; rows = r .count; «conditions_at» = r .at; conditions = c .count; «outputs_at» = c .at + 3; outputs = byteAt bs (c .at + 2); end = recordEnd 2 bs (c .at) }) noBlock
+blockWith bs i r c =
+    cond (recordOk 2 bs (c .at))
+    (record {
+      parent = byteAt bs (i + 2);
+      «rows_at» = i + 3;
+      rows = r .count;
+      «conditions_at» = r .at;
+      conditions = c .count;
+      «outputs_at» = c .at + 3;
+      outputs = byteAt bs (c .at + 2);
+      end = recordEnd 2 bs (c .at);
+    })
+    noBlock
 
 unfoldable pub block : List ℕ → ℕ → Block
 block bs i = cond (recordOk 3 bs i) (blockWith bs i (runs 0 bs (i + 3)) (runs 1 bs (runs 0 bs (i + 3) .at))) noBlock
@@ -100,7 +138,13 @@ abbrev pub blockWithin : Block → Bool
 blockWithin b = ltb (b .rows) 4 && ltb (b .conditions) 9 && ltb 0 (b .outputs) && ltb (b .outputs) 5
 
 unfoldable pub put : Question → Block → Question
-put q b = record { blocks = cond (ltb (q .count) 5) (set (q .blocks) (q .count) b) (q .blocks); count = q .count + 1; within = q .within && blockWithin b; end = b .end }
+put q b =
+    record {
+      blocks = cond (ltb (q .count) 5) (set (q .blocks) (q .count) b) (q .blocks);
+      count = q .count + 1;
+      within = q .within && blockWithin b;
+      end = b .end;
+    }
 
 -- as many blocks as stand from the end of q on
 unfoldable pub walk : ℕ → List ℕ → Question → Question

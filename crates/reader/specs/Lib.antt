@@ -1,0 +1,3 @@
+pub mod Causes
+pub mod Leaves
+pub mod Walk

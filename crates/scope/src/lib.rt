@@ -1,0 +1,213 @@
+// The variables of a block as sets of sixteen bits, the levels of blocks, and which output columns are ratios (01, "A
+// variable belongs to the one block where it stands as kind 2"; numbers 7 to 9). Every public function is total: an
+// element past the end of the bytes is empty, and a block past the last has no records. A walk stops at the end of the
+// bytes, since what is left past it holds nothing.
+ghost use mathlib.Core.Path.{_≡_};
+ghost use mathlib.Core.Bool.{_&&_};
+ghost use mathlib.Core.List.{List};
+ghost use Prim.Native.Nat.{ℕ, _≤_, _<_};
+ghost use lib.Dec.{eqb, ltb};
+ghost use lib.ListN.{length, getD};
+ghost use Rattle.model.specs.Checks.{ratioAt};
+ghost use Rattle.model.specs.Question.{empty, blockAt};
+ghost use Rattle.model.specs.Scope.{owns, refers, levelOf};
+ghost use Rattle.syntax.specs.Places.{headOf, entriesOf};
+ghost use Rattle.syntax.specs.Described.{described, blocksIn};
+ghost use Rattle.scope.specs.Masks.{hasBit, maskOf};
+ghost use Rattle.scope.specs.Gathering.{holdsAt, elementsHold, recordsHold};
+ghost use Rattle.scope.specs.Columns.{elementOf, passesOn, isAverage, absentBlock};
+
+// A byte as a length.
+fn size(x: u8) -> usize
+    ensures { λ r. ⌜ (r ≡ x) × (r < 256) ⌝ }
+{
+    x as usize
+}
+
+// The set of one variable, empty where it is none of 0 to 15.
+fn bit(v: u64) -> u16
+    ensures { λ r. ⌜ r ≡ maskOf (λ w. eqb w v) ⌝ }
+{
+    if v < 16 {
+        return 1 << v;
+    }
+    0
+}
+
+// Whether the variable is in the set.
+pub fn has(mask: u16, v: u64) -> bool
+    ensures { λ r. ⌜ r ≡ ltb v 16 && hasBit mask v ⌝ }
+{
+    if v < 16 {
+        return (mask >> v) % 2 == 1;
+    }
+    false
+}
+
+// The variable that the element at a place holds as the kind, as a set.
+fn holds_at(s: &[u8], at: usize, kind: u8) -> u16
+    ensures { λ r. ⌜ r ≡ maskOf (holdsAt kind (now (s .entry)) at) ⌝ }
+{
+    let e = syntax::item_at(s, at);
+    if e.kind == kind {
+        return bit(e.argument);
+    }
+    0
+}
+
+// The variables that n elements from a place on hold as the kind.
+fn elements_hold(s: &[u8], at: usize, n: usize, kind: u8) -> u16
+    requires { ⌜ 0 < kind ⌝ }
+    ensures { λ r. ⌜ r ≡ maskOf (elementsHold kind (now (s .entry)) n at) ⌝ }
+{
+    let mut mask: u16 = 0;
+    let mut i = at;
+    let mut more = n;
+    while (more > 0) & (i < s.len()) {
+        mask = mask | holds_at(s, i, kind);
+        i += 9;
+        more -= 1;
+    }
+    mask
+}
+
+// How long the head of a record is: 0 RW, 1 CD.
+fn head_of(rec: u8) -> usize
+    requires { ⌜ rec < 2 ⌝ }
+    ensures { λ r. ⌜ (r ≡ headOf rec) × (r ≤ 4) ⌝ }
+{
+    if rec == 0 {
+        return 4;
+    }
+    3
+}
+
+// How many elements the record at a place has.
+fn entries_of(rec: u8, s: &[u8], at: usize) -> usize
+    requires { ⌜ (rec < 2) × (at < length (now s)) ⌝ }
+    ensures { λ r. ⌜ (r ≡ entriesOf rec (now (s .entry)) at) × (r < 256) ⌝ }
+{
+    if rec == 0 {
+        return size(syntax::byte_at(s, at + 3));
+    }
+    2
+}
+
+// The variables that n records from a place on hold as the kind.
+fn records_hold(rec: u8, s: &[u8], at: usize, n: usize, kind: u8) -> u16
+    requires { ⌜ (rec < 2) × (0 < kind) ⌝ }
+    ensures { λ r. ⌜ r ≡ maskOf (recordsHold rec kind (now (s .entry)) n at) ⌝ }
+{
+    let mut mask: u16 = 0;
+    let mut i = at;
+    let mut more = n;
+    while (more > 0) & (i < s.len()) {
+        let first = i + head_of(rec);
+        let inside = entries_of(rec, s, i);
+        mask = mask | elements_hold(s, first, inside, kind);
+        i = first + 9 * inside;
+        more -= 1;
+    }
+    mask
+}
+
+// The variables that belong to a block: those that stand in its relation rows.
+pub fn own(s: &[u8], b: syntax::Block) -> u16
+    ensures { λ r. ⌜ r ≡ maskOf (λ v. owns v (described (now (s .entry)) b)) ⌝ }
+{
+    records_hold(0, s, b.rows_at, b.rows, 2)
+}
+
+// The variables that stand in a block as fixed ones: in its relation rows, its conditions and its output list.
+pub fn used(s: &[u8], b: syntax::Block) -> u16
+    ensures { λ r. ⌜ r ≡ maskOf (λ v. refers v (described (now (s .entry)) b)) ⌝ }
+{
+    let rows = records_hold(0, s, b.rows_at, b.rows, 3);
+    let conditions = records_hold(1, s, b.conditions_at, b.conditions, 3);
+    let outputs = elements_hold(s, b.outputs_at, b.outputs, 3);
+    rows | (conditions | outputs)
+}
+
+// A block that stands nowhere.
+fn absent_block() -> syntax::Block
+    ensures { λ r. ⌜ r ≡ absentBlock ⌝ }
+{
+    syntax::Block {
+        parent: 255,
+        rows_at: 0,
+        rows: 0,
+        conditions_at: 0,
+        conditions: 0,
+        outputs_at: 0,
+        outputs: 0,
+        end: 0,
+    }
+}
+
+// Block k of the question, one that stands nowhere past the last or past the fifth.
+pub fn block_of(q: syntax::Question, block: u8) -> syntax::Block
+    ensures { λ r. ⌜ ((bs : List ℕ) → described bs r ≡ blockAt (blocksIn bs q) block) ⌝ }
+{
+    let k = size(block);
+    if (k < q.count) & (k < 5) {
+        return q.blocks[k];
+    }
+    absent_block()
+}
+
+// The level of a block, block 0 being at level 1: five steps up at the most.
+pub fn level(q: syntax::Question, block: u8) -> u8
+    ensures { λ r. ⌜ ((bs : List ℕ) → r ≡ levelOf 5 (blocksIn bs q) block) ⌝ }
+{
+    let mut at = block;
+    let mut n: u8 = 1;
+    let mut left: u8 = 5;
+    while (left > 0) & (at > 0) {
+        let b = block_of(q, at);
+        at = b.parent;
+        n += 1;
+        left -= 1;
+    }
+    n
+}
+
+// The element in an output column of a block, an empty one where there is none.
+fn output_of(s: &[u8], q: syntax::Question, block: u8, column: u8) -> syntax::Item
+    ensures { λ r. ⌜ elementOf r ≡ getD (blockAt (blocksIn (now (s .entry)) q) block .outputs) column empty ⌝ }
+{
+    let b = block_of(q, block);
+    let at = b.outputs_at;
+    let c = size(column);
+    if (c < b.outputs) & (at < s.len()) {
+        return syntax::item_at(s, at + 9 * c);
+    }
+    syntax::item_at(s, s.len())
+}
+
+// Whether the element is a min or a max: a ratio where its column is one.
+fn passes_on(e: syntax::Item) -> bool
+    ensures { λ r. ⌜ r ≡ passesOn e ⌝ }
+{
+    (e.kind > 3) & ((e.function == 2) | (e.function == 3))
+}
+
+// Whether the element is an average: a ratio whatever its column is.
+fn is_average(e: syntax::Item) -> bool
+    ensures { λ r. ⌜ r ≡ isAverage e ⌝ }
+{
+    (e.kind > 3) & (e.function > 3)
+}
+
+// Whether an output column of a block is a ratio, where so many levels are left.
+pub fn ratio(s: &[u8], q: syntax::Question, levels: u8, block: u8, column: u8) -> bool
+    ensures { λ r. ⌜ r ≡ ratioAt levels (blocksIn (now (s .entry)) q) block column ⌝ }
+{
+    if levels == 0 {
+        return false;
+    }
+    let e = output_of(s, q, block, column);
+    if passes_on(e) {
+        return ratio(s, q, levels - 1, e.block, e.column);
+    }
+    is_average(e)
+}

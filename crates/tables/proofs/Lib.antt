@@ -1,0 +1,12 @@
+pub mod Signs
+pub mod Comparisons
+pub mod PlaceLaws
+pub mod DataLaws
+pub mod Bisecting
+pub mod Putting
+pub mod LaidLaws
+pub mod AscendingLaws
+pub mod SortLaws
+pub mod IndexNumbers
+pub mod RangeLaws
+pub mod TriedLaws
