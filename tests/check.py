@@ -28,7 +28,7 @@ STORED = HERE / "stored"
 JOBS_SEED, JOBS = 4747, 260
 INDEX_SEED, INDEX_CALLS = 474, 60
 MOST_PLANS = 24
-PROGRAMS = {"value_expected.py": "value_test"}
+PROGRAMS = {"value_expected.py": "value_test", "tables_expected.py": "tables_test"}
 
 
 class Differs(Exception):

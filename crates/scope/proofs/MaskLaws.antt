@@ -1,8 +1,8 @@
 -- Laws of sets as masks: each is proved for masks of n bits by induction, lowest bit first, and then stated of 16.
-use Prim.Native.Nat.{ℕ, zero, suc, _+_, _*_, _/_, _%_, _^_, _≤_, _<_, min, max}
+use Prim.Native.Nat.{ℕ, zero, suc, _+_, _*_, _-_, _/_, _%_, _^_, _≤_, _<_, min, max}
 use native.Mathlib.Nat.{pow-suc, add-zero}
 use native.Mathlib.Omega.{arith}
-use mathlib.Core.Bool.{Bool, true, false, _&&_, _||_, cond}
+use mathlib.Core.Bool.{Bool, true, false, _&&_, _||_, not, cond}
 use mathlib.Core.List.{List, _∷_}
 use mathlib.Core.Path.{_≡_, refl, sym, ap, ap₂, _∙_}
 use borrow.Author.Tests.{ne-eqb}
@@ -35,6 +35,11 @@ digit-and true true = refl
 digit-and true false = refl
 digit-and false true = refl
 digit-and false false = refl
+
+digit-less : (a b : Bool) → cond (a && b) 1 0 + cond (a && not b) 1 0 ≡ cond a 1 0
+digit-less true true = refl
+digit-less true false = refl
+digit-less false b = refl
 
 -- ---- masks of n bits: their lowest digit, and the rest
 below-low : (n : ℕ) (p : ℕ → Bool) → maskBelow (suc n) p % 2 ≡ cond (p 0) 1 0
@@ -92,6 +97,13 @@ below-and (suc n) p q =
     ∙ ap₂ (λ x y. x * 2 + y)
     (ap₂ bitAnd (below-half n p) (below-half n q) ∙ below-and n (λ v. p (suc v)) (λ v. q (suc v)))
     (ap₂ min (below-low n p) (below-low n q) ∙ digit-and (p 0) (q 0))
+
+-- what both have, and what the first alone has, are the first
+below-less : (n : ℕ) (p q : ℕ → Bool)
+    → maskBelow n (λ v. p v && q v) + maskBelow n (λ v. p v && not (q v)) ≡ maskBelow n p
+unfolding maskBelow
+below-less zero p q = refl
+below-less (suc n) p q = omega (arith, digit-less (p 0) (q 0), below-less n (λ v. p (suc v)) (λ v. q (suc v)))
 
 below-power : (n i : ℕ) → i < n → 2 ^ i ≡ maskBelow n (λ v. eqb v i)
 unfolding maskBelow
@@ -188,6 +200,14 @@ mask-or p q = below-or 16 p q
 pub mask-and : (p q : ℕ → Bool) → bitAnd (maskOf p) (maskOf q) ≡ maskOf (λ v. p v && q v)
 unfolding maskOf
 mask-and p q = below-and 16 p q
+
+pub mask-part : (p q : ℕ → Bool) → maskOf (λ v. p v && q v) ≤ maskOf p
+unfolding maskOf
+mask-part p q = omega (arith, below-less 16 p q)
+
+pub mask-less : (p q : ℕ → Bool) → maskOf p - maskOf (λ v. p v && q v) ≡ maskOf (λ v. p v && not (q v))
+unfolding maskOf
+mask-less p q = omega (arith, below-less 16 p q)
 
 pub mask-power : (i : ℕ) → i < 16 → 2 ^ i ≡ maskOf (λ v. eqb v i)
 unfolding maskOf

@@ -1,0 +1,4 @@
+-- Laws of the subtree of a block, of its relation rows, and of the plan's records, over plain values.
+pub mod SubtreeLaws
+pub mod RowLaws
+pub mod RecordLaws
