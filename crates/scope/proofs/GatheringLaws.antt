@@ -1,8 +1,8 @@
 -- One turn of the loops that gather variables, over plain values; and that past the end of the bytes nothing is held.
-use Prim.Native.Nat.{ℕ, zero, suc, _+_, _*_, _-_, _≤_, _<_}
+use Prim.Native.Nat.{ℕ, zero, suc, _+_, _*_, _-_, _≤_, _<_, min}
 use native.Mathlib.Numerals.{unary-clauses}
 use native.Mathlib.Omega.{arith}
-use mathlib.Core.Bool.{Bool, true, false, _&&_, _||_}
+use mathlib.Core.Bool.{Bool, true, false, _&&_, _||_, cond}
 use mathlib.Core.List.{List}
 use mathlib.Core.Logic.{_⊎_, inl, inr}
 use mathlib.Core.Path.{_≡_, refl, sym, ap, ap₂, _∙_}
@@ -13,7 +13,7 @@ use borrow.Author.Tests.{ltb-true, ltb-false, lt-ltb, eq-eqb, ne-eqb}
 use Rattle.syntax.specs.declared.Item.{Item}
 use Rattle.syntax.specs.Places.{itemAt, byteAt, wordAt, headOf, entriesOf, recordEnd}
 use Rattle.syntax.proofs.Laws.{byte-past, end-is, both}
-use Rattle.scope.specs.Gathering.{holdsAt, elementsHold, recordsHold}
+use Rattle.scope.specs.Gathering.{numberAt, holdsAt, elementsHold, recordsHold}
 use Rattle.scope.specs.Masks.{maskOf}
 use Rattle.scope.proofs.MaskLaws.{mask-none, mask-or, mask-same}
 
@@ -59,24 +59,26 @@ stopped zero i l e = inl refl
 stopped (suc n) i l e = inr (ltb-false i l (sym (ap (λ b. b && ltb i l) (lt-ltb 0 (suc n) (omega arith))) ∙ e))
 
 -- ---- an element
-module _ (k : ℕ) (bs : List ℕ) (i : ℕ) (e : Item) (e-is : e ≡ itemAt bs i) where
-  pub held-is : e .kind ≡ k → maskOf (λ v. eqb v (e .argument)) ≡ maskOf (holdsAt k bs i)
-  unfolding holdsAt
-  held-is h =
-      mask-same (λ v. eqb v (e .argument)) (holdsAt k bs i)
-      (λ v l.
-      ap (λ (x : Item). eqb v (x .argument)) e-is
-      ∙ ap (λ b. b && eqb v (wordAt bs (i + 1)))
-      (sym (eq-eqb (byteAt bs i) k (sym (ap (λ (x : Item). x .kind) e-is) ∙ h))))
+module _ (k : ℕ) (bs : List ℕ) (i : ℕ) (e : Item) (e-is : e ≡ itemAt bs i) (g : ℕ) (g-is : g ≡ min (e .kind) 4) where
+  kind-is : g ≡ min (byteAt bs i) 4
+  kind-is = g-is ∙ ap (λ (y : Item). min (y .kind) 4) e-is
 
-  pub held-not : (e .kind ≡ k → ⊥) → 0 ≡ maskOf (holdsAt k bs i)
+  pub held-is : (x : ℕ) → x ≡ cond (eqb k 4) (e .block) (e .argument) → g ≡ k
+      → maskOf (λ v. eqb v x) ≡ maskOf (holdsAt k bs i)
+  unfolding holdsAt
+  held-is x x-is h =
+      mask-same (λ v. eqb v x) (holdsAt k bs i)
+      (λ v l.
+      ap (eqb v) (x-is ∙ ap (λ (y : Item). cond (eqb k 4) (y .block) (y .argument)) e-is)
+      ∙ ap (λ b. b && eqb v (numberAt k bs i)) (sym (eq-eqb (min (byteAt bs i) 4) k (sym kind-is ∙ h))))
+
+  pub held-not : (g ≡ k → ⊥) → 0 ≡ maskOf (holdsAt k bs i)
   unfolding holdsAt
   held-not h =
       sym
       (mask-same (holdsAt k bs i) (λ v. false)
       (λ v l.
-      ap (λ b. b && eqb v (wordAt bs (i + 1)))
-      (ne-eqb (byteAt bs i) k (λ g. h (ap (λ (x : Item). x .kind) e-is ∙ g))))
+      ap (λ b. b && eqb v (numberAt k bs i)) (ne-eqb (min (byteAt bs i) 4) k (λ q. h (kind-is ∙ q))))
       ∙ mask-none)
 
 -- ---- elements
@@ -84,8 +86,8 @@ module _ (k : ℕ) (bs : List ℕ) where
   pub holds-past : (i v : ℕ) → 0 < k → length bs ≤ i → holdsAt k bs i v ≡ false
   unfolding holdsAt
   holds-past i v p h =
-      ap (λ x. eqb x k && eqb v (wordAt bs (i + 1))) (sym (byte-past bs i h))
-      ∙ ap (λ b. b && eqb v (wordAt bs (i + 1))) (ne-eqb 0 k (λ e. omega arith))
+      ap (λ x. eqb (min x 4) k && eqb v (numberAt k bs i)) (sym (byte-past bs i h))
+      ∙ ap (λ b. b && eqb v (numberAt k bs i)) (ne-eqb 0 k (λ e. omega arith))
 
   pub elements-past : (n i v : ℕ) → 0 < k → length bs ≤ i → elementsHold k bs n i v ≡ false
   unfolding elementsHold

@@ -1,18 +1,17 @@
 -- What is held by place is what the model's tests find in the block that is described.
-use Prim.Native.Nat.{ℕ, zero, suc, _+_}
+use Prim.Native.Nat.{ℕ, zero, suc, _+_, min}
 use native.Mathlib.Omega.{arith}
 use mathlib.Core.Bool.{Bool, true, false, _&&_, _||_}
 use mathlib.Core.List.{List}
 use mathlib.Core.Path.{_≡_, refl, sym, ap, ap₂, _∙_}
 use lib.Bits.{bitOr}
 use lib.Dec.{eqb}
-use borrow.Author.Tests.{ne-eqb}
 use Rattle.model.specs.Lists.{any}
-use Rattle.model.specs.Question.{Element, isVar, isFixed, inRows, inConditions}
+use Rattle.model.specs.Question.{Element, names, isVar, isFixed, inRows, inConditions, namesIn}
 use Rattle.model.specs.Scope.{owns, refers}
 use Rattle.model.proofs.CheckEquations.{owns-is, refers-is}
 use Rattle.model.proofs.ListEquations.{any-nil, any-cons}
-use Rattle.model.proofs.QuestionEquations.{inRows-nil, inRows-cons, inConditions-nil, inConditions-cons}
+use Rattle.model.proofs.QuestionEquations.{inRows-nil, inRows-cons, inConditions-nil, inConditions-cons, namesIn-is}
 use Rattle.syntax.specs.Described.{decode, elementAt, elementsAt, relationAt, relationsAt, conditionAt, conditionsAt}
 use Rattle.syntax.specs.Described.{described}
 use Rattle.syntax.specs.Places.{byteAt, wordAt, recordEnd}
@@ -21,19 +20,29 @@ use Rattle.scope.specs.Gathering.{holdsAt, elementsHold, recordsHold}
 use Rattle.scope.specs.Masks.{maskOf}
 use Rattle.scope.proofs.MaskLaws.{mask-same, mask-or}
 
-decode-variable : (k a f b c v : ℕ) → eqb k 2 && eqb v a ≡ isVar v (decode k a f b c)
+past-3 : (k : ℕ) → min (suc (suc (suc (suc k)))) 4 ≡ 4
+past-3 k = omega arith
+
+decode-variable : (k a f b c v : ℕ) → eqb (min k 4) 2 && eqb v a ≡ isVar v (decode k a f b c)
 decode-variable zero a f b c v = refl
 decode-variable (suc zero) a f b c v = refl
 decode-variable (suc (suc zero)) a f b c v = refl
 decode-variable (suc (suc (suc zero))) a f b c v = refl
-decode-variable (suc (suc (suc (suc k)))) a f b c v = rw (ne-eqb (suc (suc (suc (suc k)))) 2 (λ e. omega arith))
+decode-variable (suc (suc (suc (suc k)))) a f b c v = ap (λ m. eqb m 2 && eqb v a) (past-3 k)
 
-decode-fixed : (k a f b c v : ℕ) → eqb k 3 && eqb v a ≡ isFixed v (decode k a f b c)
+decode-fixed : (k a f b c v : ℕ) → eqb (min k 4) 3 && eqb v a ≡ isFixed v (decode k a f b c)
 decode-fixed zero a f b c v = refl
 decode-fixed (suc zero) a f b c v = refl
 decode-fixed (suc (suc zero)) a f b c v = refl
 decode-fixed (suc (suc (suc zero))) a f b c v = refl
-decode-fixed (suc (suc (suc (suc k)))) a f b c v = rw (ne-eqb (suc (suc (suc (suc k)))) 3 (λ e. omega arith))
+decode-fixed (suc (suc (suc (suc k)))) a f b c v = ap (λ m. eqb m 3 && eqb v a) (past-3 k)
+
+decode-names : (k a f b c v : ℕ) → eqb (min k 4) 4 && eqb v b ≡ names v (decode k a f b c)
+decode-names zero a f b c v = refl
+decode-names (suc zero) a f b c v = refl
+decode-names (suc (suc zero)) a f b c v = refl
+decode-names (suc (suc (suc zero))) a f b c v = refl
+decode-names (suc (suc (suc (suc k)))) a f b c v = ap (λ m. eqb m 4 && eqb v b) (past-3 k)
 
 pub holds-variable : (bs : List ℕ) (v i : ℕ) → holdsAt 2 bs i v ≡ isVar v (elementAt bs i)
 unfolding holdsAt elementAt
@@ -44,6 +53,11 @@ pub holds-fixed : (bs : List ℕ) (v i : ℕ) → holdsAt 3 bs i v ≡ isFixed v
 unfolding holdsAt elementAt
 holds-fixed bs v i =
     decode-fixed (byteAt bs i) (wordAt bs (i + 1)) (byteAt bs (i + 1)) (byteAt bs (i + 2)) (byteAt bs (i + 3)) v
+
+pub holds-name : (bs : List ℕ) (v i : ℕ) → holdsAt 4 bs i v ≡ names v (elementAt bs i)
+unfolding holdsAt elementAt
+holds-name bs v i =
+    decode-names (byteAt bs i) (wordAt bs (i + 1)) (byteAt bs (i + 1)) (byteAt bs (i + 2)) (byteAt bs (i + 3)) v
 
 -- a test p of elements that tells what is held at each place
 module _ (k : ℕ) (bs : List ℕ) (v : ℕ) (p : Element → Bool) (h : (i : ℕ) → holdsAt k bs i v ≡ p (elementAt bs i)) where
@@ -95,6 +109,15 @@ module _ (bs : List ℕ) (b : Block) (v : ℕ) where
       (elements-any 3 bs v (isFixed v) (holds-fixed bs v) (b .outputs) (b .«outputs_at»)))
       ∙ sym (refers-is v (described bs b))
 
+  pub names-held : elementsHold 4 bs (b .outputs) (b .«outputs_at») v
+      || recordsHold 1 4 bs (b .conditions) (b .«conditions_at») v
+      ≡ namesIn v (described bs b)
+  unfolding described
+  names-held =
+      ap₂ _||_ (elements-any 4 bs v (names v) (holds-name bs v) (b .outputs) (b .«outputs_at»))
+      (conditions-any 4 bs v (names v) (holds-name bs v) (b .conditions) (b .«conditions_at»))
+      ∙ sym (namesIn-is v (described bs b))
+
 module _ (bs : List ℕ) (b : Block) where
   pub own-is : (x : ℕ) → x ≡ maskOf (recordsHold 0 2 bs (b .rows) (b .«rows_at»))
       → x ≡ maskOf (λ v. owns v (described bs b))
@@ -111,3 +134,13 @@ module _ (bs : List ℕ) (b : Block) where
       ap₂ bitOr e (ap₂ bitOr f g ∙ mask-or q r)
       ∙ mask-or p (λ v. q v || r v)
       ∙ mask-same (λ v. p v || (q v || r v)) (λ v. refers v (described bs b)) (λ v l. refers-held bs b v)
+
+  pub named-is : (x y : ℕ) → x ≡ maskOf (elementsHold 4 bs (b .outputs) (b .«outputs_at»))
+      → y ≡ maskOf (recordsHold 1 4 bs (b .conditions) (b .«conditions_at»))
+      → bitOr x y ≡ maskOf (λ v. namesIn v (described bs b))
+  named-is x y e f =
+      let p = elementsHold 4 bs (b .outputs) (b .«outputs_at») in
+      let q = recordsHold 1 4 bs (b .conditions) (b .«conditions_at») in
+      ap₂ bitOr e f
+      ∙ mask-or p q
+      ∙ mask-same (λ v. p v || q v) (λ v. namesIn v (described bs b)) (λ v l. names-held bs b v)

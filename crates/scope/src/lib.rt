@@ -3,13 +3,13 @@
 // element past the end of the bytes is empty, and a block past the last has no records. A walk stops at the end of the
 // bytes, since what is left past it holds nothing.
 ghost use mathlib.Core.Path.{_≡_};
-ghost use mathlib.Core.Bool.{_&&_};
+ghost use mathlib.Core.Bool.{_&&_, cond};
 ghost use mathlib.Core.List.{List};
-ghost use Prim.Native.Nat.{ℕ, _≤_, _<_};
+ghost use Prim.Native.Nat.{ℕ, _≤_, _<_, min};
 ghost use lib.Dec.{eqb, ltb};
 ghost use lib.ListN.{length, getD};
 ghost use Rattle.model.specs.Checks.{ratioAt};
-ghost use Rattle.model.specs.Question.{empty, blockAt};
+ghost use Rattle.model.specs.Question.{empty, blockAt, namesIn};
 ghost use Rattle.model.specs.Scope.{owns, refers, levelOf};
 ghost use Rattle.syntax.specs.Places.{headOf, entriesOf};
 ghost use Rattle.syntax.specs.Described.{described, blocksIn};
@@ -44,18 +44,38 @@ pub fn has(mask: u16, v: u64) -> bool
     false
 }
 
-// The variable that the element at a place holds as the kind, as a set.
+// The kind of the element, 4 for every kind past 3.
+fn kind_of(e: syntax::Item) -> u8
+    ensures { λ r. ⌜ r ≡ min (e .kind) 4 ⌝ }
+{
+    if e.kind > 4 {
+        return 4;
+    }
+    e.kind
+}
+
+// The number that the element holds as the kind: a variable, or the block of an aggregate.
+fn number_of(e: syntax::Item, kind: u8) -> u64
+    ensures { λ r. ⌜ r ≡ cond (eqb kind 4) (e .block) (e .argument) ⌝ }
+{
+    if kind == 4 {
+        return e.block as u64;
+    }
+    e.argument
+}
+
+// The number that the element at a place holds as the kind, as a set.
 fn holds_at(s: &[u8], at: usize, kind: u8) -> u16
     ensures { λ r. ⌜ r ≡ maskOf (holdsAt kind (now (s .entry)) at) ⌝ }
 {
     let e = syntax::item_at(s, at);
-    if e.kind == kind {
-        return bit(e.argument);
+    if kind_of(e) == kind {
+        return bit(number_of(e, kind));
     }
     0
 }
 
-// The variables that n elements from a place on hold as the kind.
+// The numbers that n elements from a place on hold as the kind.
 fn elements_hold(s: &[u8], at: usize, n: usize, kind: u8) -> u16
     requires { ⌜ 0 < kind ⌝ }
     ensures { λ r. ⌜ r ≡ maskOf (elementsHold kind (now (s .entry)) n at) ⌝ }
@@ -93,7 +113,7 @@ fn entries_of(rec: u8, s: &[u8], at: usize) -> usize
     2
 }
 
-// The variables that n records from a place on hold as the kind.
+// The numbers that n records from a place on hold as the kind.
 fn records_hold(rec: u8, s: &[u8], at: usize, n: usize, kind: u8) -> u16
     requires { ⌜ (rec < 2) × (0 < kind) ⌝ }
     ensures { λ r. ⌜ r ≡ maskOf (recordsHold rec kind (now (s .entry)) n at) ⌝ }
@@ -126,6 +146,15 @@ pub fn used(s: &[u8], b: syntax::Block) -> u16
     let conditions = records_hold(1, s, b.conditions_at, b.conditions, 3);
     let outputs = elements_hold(s, b.outputs_at, b.outputs, 3);
     rows | (conditions | outputs)
+}
+
+// The blocks that an aggregate of a block names: in its output list and its conditions. Numbers past 15 are left out.
+pub fn named(s: &[u8], b: syntax::Block) -> u16
+    ensures { λ r. ⌜ r ≡ maskOf (λ k. namesIn k (described (now (s .entry)) b)) ⌝ }
+{
+    let outputs = elements_hold(s, b.outputs_at, b.outputs, 4);
+    let conditions = records_hold(1, s, b.conditions_at, b.conditions, 4);
+    outputs | conditions
 }
 
 // A block that stands nowhere.
