@@ -28,7 +28,9 @@ STORED = HERE / "stored"
 JOBS_SEED, JOBS = 4747, 260
 INDEX_SEED, INDEX_CALLS = 474, 60
 MOST_PLANS = 24
-PROGRAMS = {"value_expected.py": "value_test", "tables_expected.py": "tables_test"}
+PROGRAMS = {"value_expected.py": "value_test", "tables_expected.py": "tables_test",      # who computes the stdout of
+            "reader_expected.py": "reader_test"}
+INPUTS = {"reader_jobs.py": "reader_test"}                                               # who writes the stdin of
 
 
 class Differs(Exception):
@@ -224,14 +226,23 @@ def check_sqlite():
     return f"{questions} questions, {plans} plans"
 
 
+def output_of(script):
+    """What a script beside this one prints."""
+    return subprocess.run([sys.executable, HERE / script], capture_output=True, check=True).stdout
+
+
 def check_programs():
-    """What the test programs are held to is what the scripts beside this one compute apart from them."""
+    """What the test programs read, and what they are held to, is what the scripts beside this one give apart from
+    them."""
+    crates = HERE.parent / "crates"
+    for script, crate in INPUTS.items():
+        same(f"crates/{crate}/stdin", output_of(script), (crates / crate / "stdin").read_bytes())
     for script, crate in PROGRAMS.items():
-        run = subprocess.run([sys.executable, HERE / script], capture_output=True, text=True, check=True)
-        same(f"crates/{crate}/stdout", run.stdout, (HERE.parent / "crates" / crate / "stdout").read_text())
-    return f"{len(PROGRAMS)} programs' outputs"
+        same(f"crates/{crate}/stdout", output_of(script), (crates / crate / "stdout").read_bytes())
+    return f"{len(PROGRAMS)} programs' outputs and {len(INPUTS)} input"
 
 
+# --apart leaves out the first, which looks outside this folder
 CHECKS = [check_programs, check_questions, check_edges, check_limits, check_faults, check_stored, check_round_trip,
           check_plans, check_sqlite]
 
@@ -248,9 +259,9 @@ def write():
 def main(arguments):
     if arguments == ["--write"]:
         return write()
-    if arguments:
-        sys.exit("usage: check.py | check.py --write")
-    for check in CHECKS:
+    if arguments not in ([], ["--apart"]):
+        sys.exit("usage: check.py | check.py --apart | check.py --write")
+    for check in CHECKS[1:] if arguments else CHECKS:
         try:
             print(f"{check.__name__[6:]}: {check()} agree", flush=True)
         except Differs as difference:

@@ -2,7 +2,7 @@
 
 Each variant is one edit of the evaluator. It is made in a copy of this folder whose stored answers are then written
 anew by the wrong evaluator itself, so that only what was written by hand, the numbers meant by the generator, demand 3
-and SQLite can tell. Status 1 if one is not caught. Takes some minutes; not part of check.py.
+and SQLite can tell; the test programs' outputs, which stand outside the folder, are left out. Status 1 if one is not caught. Takes some minutes; not part of check.py.
 """
 
 import os
@@ -177,7 +177,7 @@ def tried(variant):
         shutil.copytree(HERE, copy, ignore=shutil.ignore_patterns("__pycache__"))
         target = copy / file
         target.write_text(edited(target.read_text(), old, new))
-        for arguments in (["--write"], []):
+        for arguments in (["--write"], ["--apart"]):
             run = subprocess.run([sys.executable, str(copy / "check.py"), *arguments], capture_output=True, text=True)
             if run.returncode != 0:
                 return name, (run.stdout.strip().splitlines() or [""])[-3:], run.stderr.strip().splitlines()[-1:]
