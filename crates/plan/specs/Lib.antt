@@ -1,2 +1,2 @@
--- What one block of the subtree, one relation row and one record of the plan give.
+-- What one block of the subtree and one record of the plan give.
 pub mod Parts

@@ -25,7 +25,7 @@ fn size(x: u8) -> usize
 }
 
 // The set of one variable, empty where it is none of 0 to 15.
-fn bit(v: u64) -> u16
+pub fn bit(v: u64) -> u16
     ensures { λ r. ⌜ r ≡ maskOf (λ w. eqb w v) ⌝ }
 {
     if v < 16 {

@@ -1,0 +1,60 @@
+-- An array of descriptions that is being filled.
+use Prim.Native.Nat.{ℕ, zero, suc, _+_, _≤_, _<_}
+use native.Mathlib.Omega.{arith}
+use mathlib.Core.Bool.{Bool, true, false}
+use mathlib.Core.List.{List, [], _∷_}
+use mathlib.Core.Path.{_≡_, refl, sym, ap, subst, _∙_}
+use borrow.Author.Tests.{eqb-true, eqb-false}
+use lib.Dec.{eqb}
+use lib.ListN.{length, getD, set, replicate, length-set}
+use Rattle.syntax.specs.declared.Question.{Question}
+use Rattle.outline.specs.Outlines.{Outlined}
+use Rattle.outline.specs.declared.Outline.{Outline}
+
+module _ {A : Type 0} where
+  get-put : (l : List A) (i : ℕ) (x d : A) → i < length l → getD (set l i x) i d ≡ x
+  get-put [] i x d h = absurd (omega arith)
+  get-put (y ∷ l) zero x d h = refl
+  get-put (y ∷ l) (suc i) x d h = get-put l i x d (omega arith)
+
+  get-other : (l : List A) (i j : ℕ) (x d : A) → (j ≡ i → ⊥) → getD (set l i x) j d ≡ getD l j d
+  get-other [] i j x d n = refl
+  get-other (y ∷ l) zero zero x d n = absurd (n refl)
+  get-other (y ∷ l) zero (suc j) x d n = refl
+  get-other (y ∷ l) (suc i) zero x d n = refl
+  get-other (y ∷ l) (suc i) (suc j) x d n = get-other l i j x d (λ e. n (ap suc e))
+
+-- the first k are the descriptions of their blocks
+pub record Filled (bs : List ℕ) (q : Question) (os : List Outline) (k : ℕ) : Type 0 where
+  pub five : length os ≡ 5
+  pub few : k ≤ 5
+  pub filled : (j : ℕ) → j < k → (o : Outline) → Outlined bs q j (getD os j o)
+
+module _ (bs : List ℕ) (q : Question) where
+  pub filled-first : (f : Outline) → Outlined bs q 0 f → Filled bs q (replicate 5 f) 1
+  filled-first f h = record { five = refl; few = omega arith; filled = λ j l o. at j l o }
+    where
+      at : (j : ℕ) → j < 1 → (o : Outline) → Outlined bs q j (getD (replicate 5 f) j o)
+      at zero l o = h
+      at (suc j) l o = absurd (omega arith)
+
+  pub filled-next : (os : List Outline) (k : ℕ) (f : Outline) → k < 5 → Outlined bs q k f → Filled bs q os k
+      → Filled bs q (set os k f) (k + 1)
+  filled-next os k f h here g =
+      record {
+        five = length-set os k f ∙ g .five;
+        few = omega arith;
+        filled = λ j l o. at j l o (eqb j k) refl;
+      }
+    where
+      at : (j : ℕ) → j < k + 1 → (o : Outline) (b : Bool) → eqb j k ≡ b → Outlined bs q j (getD (set os k f) j o)
+      at j l o true e =
+          let same = eqb-true j k e in
+          subst (λ i. Outlined bs q i (getD (set os k f) i o)) (sym same)
+          (subst (λ x. Outlined bs q k x) (sym (get-put os k f o (omega (arith, g .five, h)))) here)
+      at j l o false e =
+          let other = eqb-false j k e in
+          subst (λ x. Outlined bs q j x) (sym (get-other os k j f o other)) (g .filled j (less other) o)
+        where
+          less : (j ≡ k → ⊥) → j < k
+          less n = omega (arith, l, n)

@@ -1,0 +1,49 @@
+-- Each field is what the call that gives it promises, over the block that is described.
+-- Assumes nothing.
+use mathlib.Core.Path.{sym, ap, _∙_}
+use borrow.Author.Needs.{needs}
+use lib.ListN.{take}
+use Rattle.model.specs.Matching.{live}
+use Rattle.model.specs.Question.{namesIn}
+use Rattle.relations.specs.Rows.{most}
+use Rattle.scope.specs.Masks.{maskOf}
+use Rattle.outline.proofs.outline_of.Statement.{statement}
+use Rattle.outline.proofs.outline_of.Tie as tie
+
+block-of-requires : tie.Need-block-of-requires
+block-of-requires c κs = search needs
+
+level-requires : tie.Need-level-requires
+level-requires c κs = search needs
+
+named-requires : tie.Need-named-requires
+named-requires c κs = search needs
+
+ratios-of-requires : tie.Need-ratios-of-requires
+ratios-of-requires c κs = search needs
+
+live-of-requires : tie.Need-live-of-requires
+live-of-requires c κs = search needs
+
+returns : tie.Need-returns
+returns c =
+    let s = c .before .before .before .before .before .before .args .s .now in
+    let there = c .before .before .before .before .block-of .ensures s in
+    record {
+      places-are = there;
+      level-is = c .before .before .before .level .ensures s;
+      named-are = c .before .before .named .ensures ∙ ap (λ b. maskOf (λ k. namesIn k b)) there;
+      ratios-are = c .before .ratios-of .ensures;
+      live-are = c .live-of .ensures ∙ ap (λ b. take most (live b)) there;
+    }
+
+pub outline-of-spec : {M : Type 1} → statement M
+outline-of-spec =
+    tie.close
+    (tie.spec
+    block-of-requires
+    level-requires
+    named-requires
+    ratios-of-requires
+    live-of-requires
+    returns)

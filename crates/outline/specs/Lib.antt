@@ -1,0 +1,2 @@
+-- What the description of a block tells.
+pub mod Outlines
