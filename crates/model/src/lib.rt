@@ -1,5 +1,5 @@
-// The scope paper (01) as definitions, in specs/, and their laws, in proofs/. Of code there is only what the definitions speak of:
-// the answer of a run, and the cases that lead to it.
+// The scope paper (01) as definitions, in specs/, and their laws, in proofs/. Of code there is only what the
+// definitions speak of: the answer of a run, and the cases that lead to it.
 ghost use mathlib.Core.Path.{_≡_};
 ghost use Rattle.model.specs.Outcome.{figuresOf};
 

@@ -1,14 +1,14 @@
 -- A set of numbers with a test, gathered from 0 on.
-use Prim.Native.Nat.{ℕ, zero, suc, _+_, _≤_, _<_}
+use Prim.Native.Nat.{ℕ, _+_, _≤_}
 use native.Mathlib.Omega.{arith}
 use mathlib.Core.Bool.{Bool, true, false, _&&_, _||_}
 use mathlib.Core.Path.{_≡_, refl, sym, ap, ap₂, _∙_}
-use borrow.Author.Tests.{ltb-true, ltb-false, lt-ltb, le-ltb, eq-eqb, ne-eqb, eqb-true, eqb-false}
 use lib.Bits.{bitOr}
 use lib.Dec.{eqb, ltb}
+use Rattle.outline.specs.Outlines.{only}
 use Rattle.scope.proofs.MaskLaws.{mask-none, mask-or, mask-same}
 use Rattle.scope.specs.Masks.{maskOf}
-use Rattle.outline.specs.Outlines.{only}
+use borrow.Author.Tests.{ltb-true, ltb-false, lt-ltb, le-ltb, eqb-true, eqb-false}
 
 module _ (p : ℕ → Bool) where
   abbrev pub below : (c v : ℕ) → Bool

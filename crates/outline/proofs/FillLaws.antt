@@ -4,12 +4,12 @@ use native.Mathlib.Omega.{arith}
 use mathlib.Core.Bool.{Bool, true, false}
 use mathlib.Core.List.{List, [], _∷_}
 use mathlib.Core.Path.{_≡_, refl, sym, ap, subst, _∙_}
-use borrow.Author.Tests.{eqb-true, eqb-false}
 use lib.Dec.{eqb}
 use lib.ListN.{length, getD, set, replicate, length-set}
-use Rattle.syntax.specs.declared.Question.{Question}
 use Rattle.outline.specs.Outlines.{Outlined}
 use Rattle.outline.specs.declared.Outline.{Outline}
+use Rattle.syntax.specs.declared.Question.{Question}
+use borrow.Author.Tests.{eqb-true, eqb-false}
 
 module _ {A : Type 0} where
   get-put : (l : List A) (i : ℕ) (x d : A) → i < length l → getD (set l i x) i d ≡ x

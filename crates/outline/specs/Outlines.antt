@@ -1,5 +1,5 @@
--- What the description of a block tells (01, "List of forms by place": a struct with its parent, level and record places),
--- and what an evaluation needs besides, so that it is computed once.
+-- What the description of a block tells (01, "List of forms by place": a struct with its parent, level and record
+-- places), and what an evaluation needs besides, so that it is computed once.
 --   only p c v           v is c and has p
 --   Outlined bs q k o    description o tells of block k of the question that the bytes and the places q hold:
 --     the places         of its records, and its parent

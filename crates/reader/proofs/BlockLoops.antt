@@ -18,7 +18,8 @@ use Rattle.syntax.specs.declared.Question.{Question}
 pub context-is : (bs : List ℕ) (q : Question) (two j k own above : ℕ) (b : Block) → k ≡ j → b ≡ blockOf q k
     → own ≡ maskOf (λ v. owns v (described bs b))
     → above ≡ maskOf (ancestor 5 (blocksIn bs q) (blockAt (blocksIn bs q) j .parent))
-    → _≡_ {A = Context} (record { question = q; block = j; own = own; above = above; twice = two }) (contextAt bs q two j)
+    → _≡_ {A = Context} (record { question = q; block = j; own = own; above = above; twice = two })
+    (contextAt bs q two j)
 context-is bs q two j k own above b e f g h =
     let o : own ≡ maskOf (λ v. owns v (described bs (blockOf q j))) =
     g ∙ ap (λ (x : Block). maskOf (λ v. owns v (described bs x))) (f ∙ ap (blockOf q) e) in

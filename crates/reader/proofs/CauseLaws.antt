@@ -98,7 +98,8 @@ module _ (q : List Block) (j : ℕ) (x : Masks) where
 
   join-assoc : (s t u : Tests) → join (join s t) u ≡ join s (join t u)
   join-assoc s t u =
-      tests-path _ _ _ _ _ _ _ _ (and-assoc (s .there) (t .there) (u .there)) (and-assoc (s .bound) (t .bound) (u .bound))
+      tests-path _ _ _ _ _ _ _ _ (and-assoc (s .there) (t .there) (u .there))
+      (and-assoc (s .bound) (t .bound) (u .bound))
       (and-assoc (s .sums) (t .sums) (u .sums)) (and-assoc (s .fits) (t .fits) (u .fits))
 
   pub lowest-tests : (es : List Element) (s : Tests)

@@ -114,7 +114,8 @@ module _ (q : List Block) where
       go (or-cases (eqb p a) (within n q a (blockAt q p .parent)) w) (lost n (blockAt q p .parent) v a)
     where
       go : T (eqb p a) ⊎ T (within n q a (blockAt q p .parent))
-          → (T (within n q a (blockAt q p .parent)) → T (owns v (blockAt q a)) → T (ancestor n q (blockAt q p .parent) v))
+          → (T (within n q a (blockAt q p .parent)) → T (owns v (blockAt q a))
+          → T (ancestor n q (blockAt q p .parent) v))
           → T (owns v (blockAt q p) || ancestor n q (blockAt q p .parent) v)
       go (inl s) r = or-left (owns v (blockAt q p)) _ (subst (λ k. T (owns v (blockAt q k))) (sym (eqb→eq p a s)) o)
       go (inr s) r = or-right (owns v (blockAt q p)) _ (r s o)

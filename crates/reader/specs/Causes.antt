@@ -10,8 +10,8 @@
 --   rowCause d w             7 where the table of relation row w is absent or has another number of columns
 --   rowsLowest d q j x ws m  the least over relation rows: that of the row itself, and those of its entries
 --   blockLowest d q j x m    the least over block j: its place, its relation rows, its other elements
-use Prim.Native.Nat.{ℕ, zero, suc, _+_, _^_, _/_, _%_, min}
-use mathlib.Core.Bool.{Bool, true, false, _&&_, _||_, not, cond}
+use Prim.Native.Nat.{ℕ, zero, suc, min}
+use mathlib.Core.Bool.{Bool, true, _&&_, _||_, not, cond}
 use mathlib.Core.List.{List, [], _∷_}
 use lib.Dec.{eqb, ltb}
 use lib.IntN.{ℤ}
@@ -63,7 +63,8 @@ module _ (d : List ℤ) (q : List Block) (j : ℕ) (x : Masks) where
 
   unfoldable pub blockLowest : ℕ → ℕ
   blockLowest m =
-      lowest (causeOf q j x) (otherElements (blockAt q j)) (rowsLowest (blockAt q j .relations) (min m (placeCause q j)))
+      lowest (causeOf q j x) (otherElements (blockAt q j))
+      (rowsLowest (blockAt q j .relations) (min m (placeCause q j)))
 
 -- the blocks from j on, n of them; xs gives the masks of each
 module _ (d : List ℤ) (q : List Block) (xs : ℕ → Masks) where

@@ -5,16 +5,15 @@
 --   fixedCause above v       a fixed variable not from 0 to 15: 7; of no ancestor: 8
 --   aggregateCause t f r     an aggregate: 7 unless t tells that its column is there, 9 where it sums a ratio column
 use Prim.Native.Nat.{ℕ}
-use mathlib.Core.List.{List}
 use mathlib.Core.Bool.{Bool, _&&_, _||_, not, cond}
 use lib.Dec.{eqb, ltb, leb}
 use lib.IntN.{natAbs}
 use lib.ListN.{getD}
 use Rattle.model.specs.Format.{signed}
+use Rattle.scope.specs.Masks.{hasBit}
 use Rattle.syntax.specs.Places.{noBlock}
 use Rattle.syntax.specs.declared.Block.{Block}
 use Rattle.syntax.specs.declared.Question.{Question}
-use Rattle.scope.specs.Masks.{hasBit}
 
 abbrev pub inMask : (mask v : ℕ) → Bool
 inMask mask v = ltb v 16 && hasBit mask v

@@ -1,5 +1,5 @@
--- The walk over a question's elements by place that takes the least cause from 7 to 10 (11: none), step by step. It serves
--- the proofs: what `read` promises is stated by the model alone.
+-- The walk over a question's elements by place that takes the least cause from 7 to 10 (11: none), step by step. It
+-- serves the proofs: what `read` promises is stated by the model alone.
 --   Context                 what a block's elements are held to: the question's descriptions, the block, its masks
 --   elementCause bs x e     the cause of one element, by its kind
 --   elementsCause bs x n i m   the least of m and the causes of n elements from place i on
@@ -7,25 +7,25 @@
 --   rowsCause d bs x n i m  the least of m and the causes of n relation rows from place i on, none past the end
 --   conditionsCause bs x n i m   the same of n conditions
 --   blockCause d bs x b m   the least of m and the causes of a block's elements
-use Prim.Native.Nat.{ℕ, zero, suc, _+_, _*_, min}
+use Prim.Native.Nat.{ℕ, zero, suc, _+_, min}
 use mathlib.Core.Bool.{Bool, _&&_, cond}
 use mathlib.Core.List.{List}
 use lib.Dec.{eqb, ltb}
 use lib.IntN.{ℤ}
 use lib.ListN.{length}
+use Rattle.reader.specs.Causes.{ancestor, placeCause}
+use Rattle.reader.specs.Leaves.{constantCause, variableCause, fixedCause, aggregateCause, childThere, blockOf}
+use Rattle.reader.specs.declared.Context.{Context}
 use Rattle.model.specs.Checks.{ratioAt}
-use Rattle.model.specs.Tables.{tables, columns}
 use Rattle.model.specs.Question.{blockAt}
 use Rattle.model.specs.Scope.{owns}
+use Rattle.model.specs.Tables.{tables, columns}
 use Rattle.scope.specs.Masks.{maskOf}
 use Rattle.syntax.specs.Described.{described, blocksIn}
 use Rattle.syntax.specs.Places.{byteAt, itemAt, recordEnd}
 use Rattle.syntax.specs.declared.Block.{Block}
 use Rattle.syntax.specs.declared.Item.{Item}
 use Rattle.syntax.specs.declared.Question.{Question}
-use Rattle.reader.specs.Causes.{ancestor, placeCause}
-use Rattle.reader.specs.Leaves.{constantCause, variableCause, fixedCause, aggregateCause, childThere, blockOf}
-use Rattle.reader.specs.declared.Context.{Context}
 
 abbrev pub causeByKind : (k constant variable fixed aggregate : ℕ) → ℕ
 causeByKind k c v f a = cond (eqb k 0) 11 (cond (eqb k 1) c (cond (eqb k 2) v (cond (eqb k 3) f a)))
@@ -49,7 +49,8 @@ unfoldable pub rowsCause : List ℤ → List ℕ → Context → (n i m : ℕ) �
 rowsCause d bs x zero i m = m
 rowsCause d bs x (suc n) i m =
     cond (ltb i (length bs))
-    (rowsCause d bs x n (recordEnd 0 bs i) (elementsCause bs x (byteAt bs (i + 3)) (i + 4) (min m (rowCauseAt d bs i)))) m
+    (rowsCause d bs x n (recordEnd 0 bs i)
+    (elementsCause bs x (byteAt bs (i + 3)) (i + 4) (min m (rowCauseAt d bs i)))) m
 
 unfoldable pub conditionsCause : List ℕ → Context → (n i m : ℕ) → ℕ
 conditionsCause bs x zero i m = m

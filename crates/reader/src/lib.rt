@@ -1,4 +1,5 @@
-// A question from its bytes, with the lowest of the numbers 5 to 10 that applies (01, "The question", "Causes of refusal").
+// A question from its bytes, with the lowest of the numbers 5 to 10 that applies (01, "The question", "Causes of
+// refusal").
 use scope::has;
 use scope::ratio;
 use syntax::Block;
@@ -19,11 +20,13 @@ ghost use Rattle.model.specs.Refusal.{firstOf, questionCauses};
 ghost use Rattle.syntax.specs.Places.{reading};
 ghost use Rattle.scope.specs.Masks.{maskOf};
 ghost use Rattle.reader.specs.Causes.{twiceBelow, ancestor, placeCause};
-ghost use Rattle.reader.specs.Walk.{elementCause, elementsCause, rowCauseAt, rowsCause, conditionsCause, blockCause, contextAt, causeAt, blocksCause};
-ghost use Rattle.reader.specs.Leaves.{blockOf, childThere, constantCause, variableCause, fixedCause, aggregateCause};
+ghost use Rattle.reader.specs.Walk.{elementCause, elementsCause, rowCauseAt, rowsCause, conditionsCause};
+ghost use Rattle.reader.specs.Walk.{blockCause, contextAt, causeAt, blocksCause};
+ghost use Rattle.reader.specs.Leaves.{blockOf, childThere, constantCause, variableCause, fixedCause};
+ghost use Rattle.reader.specs.Leaves.{aggregateCause};
 
-// What the elements of a block are held to: the question's descriptions, the block's number, the variables that belong to it, to its
-// proper ancestors, and to two blocks.
+// What the elements of a block are held to: the question's descriptions, the block's number, the variables that
+// belong to it, to its proper ancestors, and to two blocks.
 pub struct Context {
     pub question: Question,
     pub block: u8,
@@ -319,15 +322,15 @@ fn number_of(words: &[i32], s: &[u8], formed: bool, q: Question) -> u8
     5
 }
 
-// What a question's bytes hold over these tables: the lowest number from 5 to 10 that applies, 0 where none does, and the
-// descriptions of its blocks.
+// What a question's bytes hold over these tables: the lowest number from 5 to 10 that applies, 0 where none does, and
+// the descriptions of its blocks.
 pub struct Reading {
     pub number: u8,
     pub question: Question,
 }
 
-// Reads a question over the data, whatever either holds: over data that number 3 or 4 refuses, 7 is judged by the counts that
-// their directory words give.
+// Reads a question over the data, whatever either holds: over data that number 3 or 4 refuses, 7 is judged by the
+// counts that their directory words give.
 pub fn read(words: &[i32], question: &[u8]) -> Reading
     ensures number { λ r. ⌜ r .number ≡ firstOf (questionCauses (now (words .entry)) (now (question .entry))) ⌝ }
     ensures described { λ r. ⌜ r .question ≡ reading (now (question .entry)) ⌝ }

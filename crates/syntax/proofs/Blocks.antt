@@ -183,7 +183,8 @@ module _ (bs : List ℕ) where
         let n : recordOk 1 bs (r .at) ≡ false =
         not-there 1 (r .at) (omega arith) (marked-other RW CD (drop (r .at) bs) (λ z. omega arith) m) in
         let s : c .at ≡ r .at = ap (λ (x : Run). x .at) (run-empty 1 (r .at) n) in
-        no-output h (not-there 2 (c .at) (omega arith) (marked-other RW OL (drop (c .at) bs) (λ z. omega arith) (rw s m)))
+        no-output h
+        (not-there 2 (c .at) (omega arith) (marked-other RW OL (drop (c .at) bs) (λ z. omega arith) (rw s m)))
 
     after-conditions : i + 3 ≤ length bs → marked CD (drop (c .at) bs) ≡ true → block bs i ≡ noBlock
     after-conditions h m =

@@ -246,7 +246,8 @@ module _ (bs : List ℕ) where
       p = element (kindsOf r)
 
       go : (t u : Bool) → times n p (drop (i + 9) bs) ≡ only u (elementsAt bs n (i + 9)) (drop (i + 9 + 9 * n) bs)
-          → after (only t (elementAt bs i) (drop (i + 9) bs)) (λ a cs. after (times n p cs) (λ xs ds. some (a ∷ xs, ds)))
+          → after (only t (elementAt bs i) (drop (i + 9) bs))
+          (λ a cs. after (times n p cs) (λ xs ds. some (a ∷ xs, ds)))
           ≡ only (t && u) (elementAt bs i ∷ elementsAt bs n (i + 9)) (drop (i + 9 * suc n) bs)
       go true true k = simp (after-some, k, e)
       go true false k = simp (after-some, k, after-none)

@@ -1,11 +1,15 @@
-// The question's bytes as records in their order (01, "The question"; number 5), and the places of what they hold. Blocks are read to
-// the last byte, whatever their number; the first five are kept. Every public function is total: bytes past the end read 0.
+// The question's bytes as records in their order (01, "The question"; number 5), and the places of what they hold.
+// Blocks are read to the last byte, whatever their number; the first five are kept. Every public function is total:
+// bytes past the end read 0.
 ghost use mathlib.Core.Path.{_≡_};
 ghost use mathlib.Core.Bool.{true, _&&_};
 ghost use Prim.Native.Nat.{ℕ, _+_, _*_, _-_, _≤_, _<_};
 ghost use lib.ListN.{length, getD};
 ghost use Rattle.model.specs.Records as model;
-ghost use Rattle.syntax.specs.Places.{itemAt, byteAt, left, wordAt, takes, fiveZeros, argumentOk, elementOk, elementsOk, isMark, headOf, entriesOf, headOk, recordEnd, recordOk, run, runs, block, blockWithin, put, walk, noBlock, noQuestion, reading, wellFormed};
+ghost use Rattle.syntax.specs.Places.{itemAt, byteAt, left, wordAt, takes, fiveZeros, argumentOk, elementOk};
+ghost use Rattle.syntax.specs.Places.{elementsOk, isMark, headOf, entriesOf, headOk, recordEnd, recordOk, run};
+ghost use Rattle.syntax.specs.Places.{runs, block, blockWithin, put, walk, noBlock, noQuestion, reading};
+ghost use Rattle.syntax.specs.Places.{wellFormed};
 
 // An element of the question: its kind, its argument as a number, and the argument's first three bytes.
 pub struct Item {

@@ -4,35 +4,27 @@ use Rattle.model.proofs.figures.Tie as tie
 use Rattle.model.proofs.figures.Reads as reads
 use Rattle.model.proofs.figures.Lts as lts
 
--- src/lib.rt:38:13
 enum-known-o : tie.Need-enum-known-o
 enum-known-o c = search needs
 
--- src/lib.rt:47:28
 enum-known-o-2 : tie.Need-enum-known-o-2
 enum-known-o-2 c = search needs
 
--- src/lib.rt:53:31
 enum-known-o-3 : tie.Need-enum-known-o-3
 enum-known-o-3 c = search needs
 
--- src/lib.rt:59:29
 enum-known-o-4 : tie.Need-enum-known-o-4
 enum-known-o-4 c = search needs
 
--- src/lib.rt:33:1
 returns : tie.Need-returns
 returns c = cc
 
--- src/lib.rt:33:1
 returns-2 : tie.Need-returns-2
 returns-2 c = cc
 
--- src/lib.rt:33:1
 returns-3 : tie.Need-returns-3
 returns-3 c = cc
 
--- src/lib.rt:33:1
 returns-4 : tie.Need-returns-4
 returns-4 c = cc
 

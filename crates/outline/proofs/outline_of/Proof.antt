@@ -1,13 +1,13 @@
 -- Each field is what the call that gives it promises, over the block that is described.
 -- Assumes nothing.
-use mathlib.Core.Path.{sym, ap, _∙_}
-use borrow.Author.Needs.{needs}
+use mathlib.Core.Path.{ap, _∙_}
 use lib.ListN.{take}
 use Rattle.model.specs.Matching.{live}
 use Rattle.model.specs.Question.{namesIn}
+use Rattle.outline.proofs.outline_of.Statement.{statement}
 use Rattle.relations.specs.Rows.{most}
 use Rattle.scope.specs.Masks.{maskOf}
-use Rattle.outline.proofs.outline_of.Statement.{statement}
+use borrow.Author.Needs.{needs}
 use Rattle.outline.proofs.outline_of.Tie as tie
 
 block-of-requires : tie.Need-block-of-requires

@@ -1,9 +1,7 @@
 -- The descriptions below k are in their places.
 -- Assumes nothing.
-use Prim.Native.Nat.{_-_, _≤_, _<_}
+use Prim.Native.Nat.{_-_}
 use native.Mathlib.Omega.{arith}
-use mathlib.Core.Path.{_≡_}
-use borrow.Author.Needs.{needs}
 use Rattle.outline.proofs.FillLaws.{Filled, filled-first, filled-next}
 use Rattle.outline.proofs.outlines_of.Statement.{statement}
 use Rattle.outline.proofs.outlines_of.Tie as tie

@@ -1,12 +1,12 @@
 -- The column alone, where it is a ratio.
 -- Assumes nothing.
 use mathlib.Core.Path.{sym, _∙_}
-use borrow.Author.Needs.{needs}
 use Rattle.model.specs.Checks.{ratioAt}
 use Rattle.model.specs.Scope.{levels}
-use Rattle.syntax.specs.Described.{blocksIn}
 use Rattle.outline.proofs.ColumnLaws.{only-has, only-none}
 use Rattle.outline.proofs.ratio_bit.Statement.{statement}
+use Rattle.syntax.specs.Described.{blocksIn}
+use borrow.Author.Needs.{needs}
 use Rattle.outline.proofs.ratio_bit.Tie as tie
 
 ratio-requires : tie.Need-ratio-requires

@@ -1,14 +1,14 @@
 -- The mask has the columns passed that are ratios; sixteen are all that a set has.
 -- Assumes nothing.
-use Prim.Native.Nat.{_-_, _≤_}
+use Prim.Native.Nat.{_-_}
 use native.Mathlib.Omega.{arith}
 use mathlib.Core.Path.{_≡_}
 use Rattle.model.specs.Checks.{ratioAt}
 use Rattle.model.specs.Scope.{levels}
-use Rattle.scope.specs.Masks.{maskOf}
-use Rattle.syntax.specs.Described.{blocksIn}
 use Rattle.outline.proofs.ColumnLaws.{below, below-none, below-next, below-all}
 use Rattle.outline.proofs.ratios_of.Statement.{statement}
+use Rattle.scope.specs.Masks.{maskOf}
+use Rattle.syntax.specs.Described.{blocksIn}
 use Rattle.outline.proofs.ratios_of.Tie as tie
 
 abbrev Inv-loop : tie.InvT-loop
@@ -33,7 +33,8 @@ loop-again : tie.Need-loop-again Inv-loop μ-loop
 loop-again c =
     let a = c .before .before .before .before .args in
     let l = c .before .before .loop in
-    below-next (ratioAt levels (blocksIn (a .s .now) (a .q)) (a .block)) (l .c) (l .mask) (c .ratio-bit .result) (l .inv)
+    below-next (ratioAt levels (blocksIn (a .s .now) (a .q)) (a .block)) (l .c) (l .mask) (c .ratio-bit .result)
+    (l .inv)
     (c .ratio-bit .ensures)
 
 returns : tie.Need-returns Inv-loop μ-loop

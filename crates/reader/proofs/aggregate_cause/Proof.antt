@@ -1,19 +1,16 @@
-use borrow.Author.Needs.{needs}
 use Rattle.reader.proofs.aggregate_cause.Statement.{statement}
+use borrow.Author.Needs.{needs}
 use Rattle.reader.proofs.aggregate_cause.Tie as tie
 use Rattle.reader.proofs.aggregate_cause.Reads as reads
 use Rattle.reader.proofs.aggregate_cause.Lts as lts
 use Rattle.reader.proofs.pick.Reads as pick-reads
 
--- src/lib.rt:70:17
 pick-requires : tie.Need-pick-requires
 pick-requires c κs = search needs
 
--- src/lib.rt:70:5
 pick-requires-2 : tie.Need-pick-requires-2
 pick-requires-2 c κs = search needs
 
--- src/lib.rt:67:1
 returns : tie.Need-returns
 returns c = cc
 

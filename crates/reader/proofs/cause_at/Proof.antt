@@ -1,9 +1,9 @@
-use native.Mathlib.Nat.{min-le-left, le-trans}
 use Prim.Native.Nat.{_≤_}
+use native.Mathlib.Nat.{min-le-left, le-trans}
 use mathlib.Core.Path.{subst, sym}
 use Rattle.reader.proofs.BlockLoops.{cause-is}
-use borrow.Author.Needs.{needs}
 use Rattle.reader.proofs.cause_at.Statement.{statement}
+use borrow.Author.Needs.{needs}
 use Rattle.reader.proofs.cause_at.Tie as tie
 use Rattle.reader.proofs.cause_at.Reads as reads
 use Rattle.reader.proofs.cause_at.Lts as lts
@@ -14,33 +14,43 @@ use Rattle.reader.proofs.lower.Reads as lower-reads
 use Rattle.reader.proofs.place_cause.Reads as place-cause-reads
 use Rattle.reader.proofs.size.Reads as size-reads
 
--- src/lib.rt:280:9
 context-of-requires : tie.Need-context-of-requires
 context-of-requires c κs = search needs
 
--- src/lib.rt:281:21
 size-requires : tie.Need-size-requires
 size-requires c κs = search needs
 
--- src/lib.rt:281:9
 kept-requires : tie.Need-kept-requires
 kept-requires c κs = search needs
 
--- src/lib.rt:282:42
 place-cause-requires : tie.Need-place-cause-requires
 place-cause-requires c κs = search needs
 
--- src/lib.rt:282:33
 lower-requires : tie.Need-lower-requires
 lower-requires c κs = search needs
 
--- src/lib.rt:282:5
 block-cause-requires : tie.Need-block-cause-requires
-block-cause-requires c κs = subst (λ z. z ≤ 11) (sym (c .lower .ensures)) (le-trans (min-le-left (c .before .before .before .before .before .before .args .m) _) (c .before .before .before .before .before .before .pre))
+block-cause-requires c κs = subst (λ z. z ≤ 11) (sym (c .lower .ensures))
+    (le-trans (min-le-left (c .before .before .before .before .before .before .args .m) _)
+    (c .before .before .before .before .before .before .pre))
 
--- src/lib.rt:275:1
 returns : tie.Need-returns
-returns c = (cause-is (c .before .before .before .before .before .before .before .args .words .now) (c .before .before .before .before .before .before .before .args .s .now) (c .before .before .before .before .before .before .before .args .q) (c .before .before .before .before .before .before .before .args .twice) (c .before .before .before .before .before .before .before .args .j) (c .before .before .before .before .before .before .before .args .m) (c .before .before .before .before .size .result) (c .before .before .place-cause .result) (c .before .lower .result) _ (c .before .before .before .before .before .context-of .result) (c .before .before .before .kept .result) (c .before .before .before .before .size .ensures .0) (c .before .before .before .before .before .context-of .ensures) (c .before .before .before .kept .ensures) (c .before .before .place-cause .ensures (c .before .before .before .before .before .before .before .args .s .now)) (c .before .lower .ensures) (c .block-cause .ensures .0), c .block-cause .ensures .1)
+returns c = (
+  cause-is (c .before .before .before .before .before .before .before .args .words .now)
+      (c .before .before .before .before .before .before .before .args .s .now)
+      (c .before .before .before .before .before .before .before .args .q)
+      (c .before .before .before .before .before .before .before .args .twice)
+      (c .before .before .before .before .before .before .before .args .j)
+      (c .before .before .before .before .before .before .before .args .m)
+      (c .before .before .before .before .size .result) (c .before .before .place-cause .result)
+      (c .before .lower .result) _ (c .before .before .before .before .before .context-of .result)
+      (c .before .before .before .kept .result) (c .before .before .before .before .size .ensures .0)
+      (c .before .before .before .before .before .context-of .ensures) (c .before .before .before .kept .ensures)
+      (c .before .before .place-cause .ensures
+      (c .before .before .before .before .before .before .before .args .s .now)) (c .before .lower .ensures)
+      (c .block-cause .ensures .0),
+  c .block-cause .ensures .1,
+)
 
 pub cause-at-spec : {M : Type 1} → statement M
 cause-at-spec =

@@ -1,15 +1,13 @@
-use borrow.Author.Needs.{needs}
 use Rattle.reader.proofs.child_there.Statement.{statement}
+use borrow.Author.Needs.{needs}
 use Rattle.reader.proofs.child_there.Tie as tie
 use Rattle.reader.proofs.child_there.Reads as reads
 use Rattle.reader.proofs.child_there.Lts as lts
 use Rattle.reader.proofs.kept.Reads as kept-reads
 
--- src/lib.rt:104:9
 kept-requires : tie.Need-kept-requires
 kept-requires c κs = search needs
 
--- src/lib.rt:100:1
 returns : tie.Need-returns
 returns c = cc
 

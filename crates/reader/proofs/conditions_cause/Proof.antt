@@ -1,6 +1,6 @@
-use lib.ListN.{length}
-use mathlib.Core.Path.{refl, _∙_}
 use native.Mathlib.Omega.{arith}
+use mathlib.Core.Path.{refl}
+use lib.ListN.{length}
 use Rattle.reader.specs.Walk.{conditionsCause}
 use Rattle.reader.proofs.KindLaws.{Left, going, conditions-stop, conditions-more}
 use Rattle.reader.proofs.conditions_cause.Statement.{statement}
@@ -10,42 +10,52 @@ use Rattle.reader.proofs.conditions_cause.Lts as lts
 use Rattle.reader.proofs.elements_cause.Reads as elements-cause-reads
 
 abbrev Inv-loop : tie.InvT-loop
-Inv-loop s x at n m least₀ i₀ more₀ least i more = Left (conditionsCause s x n at m) (conditionsCause s x more i least) least
+Inv-loop s x at n m least₀ i₀ more₀ least i more =
+    Left (conditionsCause s x n at m) (conditionsCause s x more i least) least
 
 abbrev μ-loop : tie.MeasureT-loop
 μ-loop s x at n m least₀ i₀ more₀ least i more = more
 
--- src/lib.rt:192:5
 loop-holds : tie.Need-loop-holds Inv-loop μ-loop
 loop-holds c = record { same = refl; small = c .before .pre }
 
--- src/lib.rt:193:38
 add-elements-cause : tie.Need-add-elements-cause Inv-loop μ-loop
-add-elements-cause c = let g = going (c .before .loop .more) (c .before .loop .i) (length (c .before .before .before .args .s .now)) (c .loop-test .taken) in omega arith
+add-elements-cause c = let g = going (c .before .loop .more) (c .before .loop .i)
+    (length (c .before .before .before .args .s .now)) (c .loop-test .taken) in omega arith
 
--- src/lib.rt:193:9
 elements-cause-requires : tie.Need-elements-cause-requires Inv-loop μ-loop
 elements-cause-requires c κs = c .before .loop .inv .small
 
--- src/lib.rt:194:9
 add-i : tie.Need-add-i Inv-loop μ-loop
-add-i c = let g = going (c .before .before .loop .more) (c .before .before .loop .i) (length (c .before .before .before .before .args .s .now)) (c .before .loop-test .taken) in omega arith
+add-i c = let g = going (c .before .before .loop .more) (c .before .before .loop .i)
+    (length (c .before .before .before .before .args .s .now)) (c .before .loop-test .taken) in
+    omega arith
 
--- src/lib.rt:195:9
 sub-more : tie.Need-sub-more Inv-loop μ-loop
-sub-more c = let g = going (c .before .before .loop .more) (c .before .before .loop .i) (length (c .before .before .before .before .args .s .now)) (c .before .loop-test .taken) in omega arith
+sub-more c = let g = going (c .before .before .loop .more) (c .before .before .loop .i)
+    (length (c .before .before .before .before .args .s .now)) (c .before .loop-test .taken) in
+    omega arith
 
--- src/lib.rt:192:5
 loop-less : tie.Need-loop-less Inv-loop μ-loop
-loop-less c = let g = going (c .before .before .loop .more) (c .before .before .loop .i) (length (c .before .before .before .before .args .s .now)) (c .before .loop-test .taken) in omega arith
+loop-less c = let g = going (c .before .before .loop .more) (c .before .before .loop .i)
+    (length (c .before .before .before .before .args .s .now)) (c .before .loop-test .taken) in
+    omega arith
 
--- src/lib.rt:192:5
 loop-again : tie.Need-loop-again Inv-loop μ-loop
-loop-again c = let g = going (c .before .before .loop .more) (c .before .before .loop .i) (length (c .before .before .before .before .args .s .now)) (c .before .loop-test .taken) in conditions-more (c .before .before .before .before .args .s .now) (c .before .before .before .before .args .x) (c .before .before .loop .more) (c .before .before .loop .i) (c .before .before .loop .least) _ (c .elements-cause .result) (g .0) (c .elements-cause .ensures .0) (c .elements-cause .ensures .1) (c .before .before .loop .inv)
+loop-again c = let g = going (c .before .before .loop .more) (c .before .before .loop .i)
+    (length (c .before .before .before .before .args .s .now)) (c .before .loop-test .taken) in
+    conditions-more (c .before .before .before .before .args .s .now)
+    (c .before .before .before .before .args .x) (c .before .before .loop .more) (c .before .before .loop .i)
+    (c .before .before .loop .least) _ (c .elements-cause .result) (g .0) (c .elements-cause .ensures .0)
+    (c .elements-cause .ensures .1) (c .before .before .loop .inv)
 
--- src/lib.rt:184:1
 returns : tie.Need-returns Inv-loop μ-loop
-returns c = (conditions-stop (c .before .before .before .args .s .now) (c .before .before .before .args .x) (c .before .loop .more) (c .before .loop .i) (c .before .loop .least) _ (c .loop-test .left) (c .before .loop .inv), c .before .loop .inv .small)
+returns c = (
+  conditions-stop (c .before .before .before .args .s .now) (c .before .before .before .args .x)
+      (c .before .loop .more) (c .before .loop .i) (c .before .loop .least) _ (c .loop-test .left)
+      (c .before .loop .inv),
+  c .before .loop .inv .small,
+)
 
 pub conditions-cause-spec : {M : Type 1} → statement M
 conditions-cause-spec =

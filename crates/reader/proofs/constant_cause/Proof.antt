@@ -1,17 +1,15 @@
 use mathlib.Core.Path.{_∙_}
 use Rattle.reader.proofs.LeafLaws.{large-is}
-use borrow.Author.Needs.{needs}
 use Rattle.reader.proofs.constant_cause.Statement.{statement}
+use borrow.Author.Needs.{needs}
 use Rattle.reader.proofs.constant_cause.Tie as tie
 use Rattle.reader.proofs.constant_cause.Reads as reads
 use Rattle.reader.proofs.constant_cause.Lts as lts
 use Rattle.reader.proofs.pick.Reads as pick-reads
 
--- src/lib.rt:59:5
 pick-requires : tie.Need-pick-requires
 pick-requires c κs = search needs
 
--- src/lib.rt:56:1
 returns : tie.Need-returns
 returns c = c .pick .ensures ∙ large-is (c .before .args .a) (c .before .fits .a .fits)
 

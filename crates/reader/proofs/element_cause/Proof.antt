@@ -1,6 +1,6 @@
 use Rattle.reader.proofs.KindLaws.{empty-cause, constant-cause, variable-cause, fixed-cause, aggregate-cause}
-use borrow.Author.Needs.{needs}
 use Rattle.reader.proofs.element_cause.Statement.{statement}
+use borrow.Author.Needs.{needs}
 use Rattle.reader.proofs.element_cause.Tie as tie
 use Rattle.reader.proofs.element_cause.Reads as reads
 use Rattle.reader.proofs.element_cause.Lts as lts
@@ -11,58 +11,58 @@ use Rattle.reader.proofs.fixed_cause.Reads as fixed-cause-reads
 use Rattle.reader.proofs.variable_cause.Reads as variable-cause-reads
 use Rattle.scope.proofs.ratio.Reads as ratio-reads
 
--- src/lib.rt:110:9
 returns : tie.Need-returns
 returns c =
-    empty-cause (c .before .before .args .s .now) (c .before .before .args .x) (c .before .before .args .e) (c .if1 .taken)
+    empty-cause (c .before .before .args .s .now) (c .before .before .args .x) (c .before .before .args .e)
+    (c .if1 .taken)
 
--- src/lib.rt:113:9
 constant-cause-requires : tie.Need-constant-cause-requires
 constant-cause-requires c κs = search needs
 
--- src/lib.rt:113:9
 returns-2 : tie.Need-returns-2
 returns-2 c =
-    constant-cause (c .before .before .before .before .args .s .now) (c .before .before .before .before .args .x) (c .before .before .before .before .args .e) _ (c .before .before .if1 .left) (c .before .if2 .taken)
+    constant-cause (c .before .before .before .before .args .s .now) (c .before .before .before .before .args .x)
+    (c .before .before .before .before .args .e) _ (c .before .before .if1 .left) (c .before .if2 .taken)
     (c .constant-cause .ensures)
 
--- src/lib.rt:116:9
 variable-cause-requires : tie.Need-variable-cause-requires
 variable-cause-requires c κs = search needs
 
--- src/lib.rt:116:9
 returns-3 : tie.Need-returns-3
 returns-3 c =
-    variable-cause (c .before .before .before .before .before .args .s .now) (c .before .before .before .before .before .args .x) (c .before .before .before .before .before .args .e) _ (c .before .before .before .if1 .left) (c .before .before .if2 .left)
+    variable-cause (c .before .before .before .before .before .args .s .now)
+    (c .before .before .before .before .before .args .x) (c .before .before .before .before .before .args .e) _
+    (c .before .before .before .if1 .left) (c .before .before .if2 .left)
     (c .before .if3 .taken) (c .variable-cause .ensures)
 
--- src/lib.rt:119:9
 fixed-cause-requires : tie.Need-fixed-cause-requires
 fixed-cause-requires c κs = search needs
 
--- src/lib.rt:119:9
 returns-4 : tie.Need-returns-4
 returns-4 c =
-    fixed-cause (c .before .before .before .before .before .before .args .s .now) (c .before .before .before .before .before .before .args .x) (c .before .before .before .before .before .before .args .e) _ (c .before .before .before .before .if1 .left)
-    (c .before .before .before .if2 .left) (c .before .before .if3 .left) (c .before .if4 .taken) (c .fixed-cause .ensures)
+    fixed-cause (c .before .before .before .before .before .before .args .s .now)
+    (c .before .before .before .before .before .before .args .x)
+    (c .before .before .before .before .before .before .args .e) _ (c .before .before .before .before .if1 .left)
+    (c .before .before .before .if2 .left) (c .before .before .if3 .left) (c .before .if4 .taken)
+    (c .fixed-cause .ensures)
 
--- src/lib.rt:122:9
 child-there-requires : tie.Need-child-there-requires
 child-there-requires c κs = search needs
 
--- src/lib.rt:123:40
 ratio-requires : tie.Need-ratio-requires
 ratio-requires c κs = search needs
 
--- src/lib.rt:123:5
 aggregate-cause-requires : tie.Need-aggregate-cause-requires
 aggregate-cause-requires c κs = search needs
 
--- src/lib.rt:105:1
 returns-5 : tie.Need-returns-5
 returns-5 c =
-    aggregate-cause (c .before .before .before .before .before .before .before .before .before .args .s .now) (c .before .before .before .before .before .before .before .before .before .args .x) (c .before .before .before .before .before .before .before .before .before .args .e) _ _ _ (c .before .before .before .before .before .before .before .if1 .left)
-    (c .before .before .before .before .before .before .if2 .left) (c .before .before .before .before .before .if3 .left)
+    aggregate-cause (c .before .before .before .before .before .before .before .before .before .args .s .now)
+    (c .before .before .before .before .before .before .before .before .before .args .x)
+    (c .before .before .before .before .before .before .before .before .before .args .e) _ _ _
+    (c .before .before .before .before .before .before .before .if1 .left)
+    (c .before .before .before .before .before .before .if2 .left)
+    (c .before .before .before .before .before .if3 .left)
     (c .before .before .before .before .if4 .left) (c .before .before .child-there .ensures) (c .before .ratio .ensures)
     (c .aggregate-cause .ensures)
 

@@ -1,24 +1,20 @@
-use borrow.Author.Needs.{needs}
 use Rattle.reader.proofs.fixed_cause.Statement.{statement}
+use borrow.Author.Needs.{needs}
 use Rattle.reader.proofs.fixed_cause.Tie as tie
 use Rattle.reader.proofs.fixed_cause.Reads as reads
 use Rattle.reader.proofs.fixed_cause.Lts as lts
 use Rattle.reader.proofs.pick.Reads as pick-reads
 use Rattle.scope.proofs.has.Reads as has-reads
 
--- src/lib.rt:66:23
 has-requires : tie.Need-has-requires
 has-requires c κs = search needs
 
--- src/lib.rt:66:18
 pick-requires : tie.Need-pick-requires
 pick-requires c κs = search needs
 
--- src/lib.rt:66:5
 pick-requires-2 : tie.Need-pick-requires-2
 pick-requires-2 c κs = search needs
 
--- src/lib.rt:63:1
 returns : tie.Need-returns
 returns c = cc
 

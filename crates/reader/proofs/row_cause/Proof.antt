@@ -1,6 +1,6 @@
 use Rattle.reader.proofs.KindLaws.{row-at}
-use borrow.Author.Needs.{needs}
 use Rattle.reader.proofs.row_cause.Statement.{statement}
+use borrow.Author.Needs.{needs}
 use Rattle.reader.proofs.row_cause.Tie as tie
 use Rattle.reader.proofs.row_cause.Reads as reads
 use Rattle.reader.proofs.row_cause.Lts as lts
@@ -10,45 +10,41 @@ use Rattle.syntax.proofs.byte_at.Reads as byte-at-reads
 use Rattle.tables.proofs.columns.Reads as columns-reads
 use Rattle.tables.proofs.tables.Reads as tables-reads
 
--- src/lib.rt:148:24
 add-byte-at : tie.Need-add-byte-at
 add-byte-at c = search needs
 
--- src/lib.rt:148:9
 byte-at-requires : tie.Need-byte-at-requires
 byte-at-requires c κs = search needs
 
--- src/lib.rt:149:24
 add-byte-at-2 : tie.Need-add-byte-at-2
 add-byte-at-2 c = search needs
 
--- src/lib.rt:149:9
 byte-at-requires-2 : tie.Need-byte-at-requires-2
 byte-at-requires-2 c κs = search needs
 
--- src/lib.rt:150:11
 wide-requires : tie.Need-wide-requires
 wide-requires c κs = search needs
 
--- src/lib.rt:150:21
 tables-requires : tie.Need-tables-requires
 tables-requires c κs = search needs
 
--- src/lib.rt:150:47
 wide-requires-2 : tie.Need-wide-requires-2
 wide-requires-2 c κs = search needs
 
--- src/lib.rt:150:58
 columns-requires : tie.Need-columns-requires
 columns-requires c κs = search needs
 
--- src/lib.rt:150:5
 pick-requires : tie.Need-pick-requires
 pick-requires c κs = search needs
 
--- src/lib.rt:144:1
 returns : tie.Need-returns
-returns c = row-at (c .before .before .before .before .before .before .before .before .args .words .now) (c .before .before .before .before .before .before .before .before .args .s .now) (c .before .before .before .before .before .before .before .before .args .at) _ _ _ _ _ _ _ (c .before .before .before .before .before .before .byte-at .ensures) (c .before .before .before .before .before .byte-at2 .ensures) (c .before .before .before .before .wide .ensures) (c .before .before .wide2 .ensures) (c .before .before .before .tables .ensures .0) (c .before .columns .ensures .0) (c .pick .ensures)
+returns c = row-at (c .before .before .before .before .before .before .before .before .args .words .now)
+    (c .before .before .before .before .before .before .before .before .args .s .now)
+    (c .before .before .before .before .before .before .before .before .args .at) _ _ _ _ _ _ _
+    (c .before .before .before .before .before .before .byte-at .ensures)
+    (c .before .before .before .before .before .byte-at2 .ensures) (c .before .before .before .before .wide .ensures)
+    (c .before .before .wide2 .ensures) (c .before .before .before .tables .ensures .0)
+    (c .before .columns .ensures .0) (c .pick .ensures)
 
 pub row-cause-spec : {M : Type 1} → statement M
 row-cause-spec =

@@ -1,8 +1,8 @@
-use lib.ListN.{length}
 use Prim.Native.Nat.{_≤_, min}
-use mathlib.Core.Path.{refl, _∙_, ap, subst, sym}
 use native.Mathlib.Nat.{min-le-left, le-trans}
 use native.Mathlib.Omega.{arith}
+use mathlib.Core.Path.{refl, _∙_, ap, subst, sym}
+use lib.ListN.{length}
 use Rattle.reader.specs.Walk.{rowsCause}
 use Rattle.reader.proofs.KindLaws.{Left, going, rows-stop, rows-more}
 use Rattle.reader.proofs.rows_cause.Statement.{statement}
@@ -16,70 +16,95 @@ use Rattle.reader.proofs.size.Reads as size-reads
 use Rattle.syntax.proofs.byte_at.Reads as byte-at-reads
 
 abbrev Inv-loop : tie.InvT-loop
-Inv-loop words s x at n m least₀ i₀ more₀ least i more = Left (rowsCause words s x n at m) (rowsCause words s x more i least) least
+Inv-loop words s x at n m least₀ i₀ more₀ least i more =
+    Left (rowsCause words s x n at m) (rowsCause words s x more i least) least
 
 abbrev μ-loop : tie.MeasureT-loop
 μ-loop words s x at n m least₀ i₀ more₀ least i more = more
 
--- src/lib.rt:174:5
 loop-holds : tie.Need-loop-holds Inv-loop μ-loop
 loop-holds c = record { same = refl; small = c .before .pre }
 
--- src/lib.rt:175:38
 add-byte-at : tie.Need-add-byte-at Inv-loop μ-loop
-add-byte-at c = let g = going (c .before .loop .more) (c .before .loop .i) (length (c .before .before .before .args .s .now)) (c .loop-test .taken) in omega arith
+add-byte-at c = let g = going (c .before .loop .more) (c .before .loop .i)
+    (length (c .before .before .before .args .s .now)) (c .loop-test .taken) in omega arith
 
--- src/lib.rt:175:27
 byte-at-requires : tie.Need-byte-at-requires Inv-loop μ-loop
 byte-at-requires c κs = tt
 
--- src/lib.rt:175:13
 size-requires : tie.Need-size-requires Inv-loop μ-loop
 size-requires c κs = tt
 
--- src/lib.rt:176:38
 add-elements-cause : tie.Need-add-elements-cause Inv-loop μ-loop
-add-elements-cause c = let g = going (c .before .before .before .loop .more) (c .before .before .before .loop .i) (length (c .before .before .before .before .before .args .s .now)) (c .before .before .loop-test .taken) in omega arith
+add-elements-cause c = let g = going (c .before .before .before .loop .more) (c .before .before .before .loop .i)
+    (length (c .before .before .before .before .before .args .s .now))
+    (c .before .before .loop-test .taken) in omega arith
 
--- src/lib.rt:176:66
 row-cause-requires : tie.Need-row-cause-requires Inv-loop μ-loop
-row-cause-requires c κs = let g = going (c .before .before .before .loop .more) (c .before .before .before .loop .i) (length (c .before .before .before .before .before .args .s .now)) (c .before .before .loop-test .taken) in g .1
+row-cause-requires c κs = let g = going (c .before .before .before .loop .more) (c .before .before .before .loop .i)
+    (length (c .before .before .before .before .before .args .s .now))
+    (c .before .before .loop-test .taken) in g .1
 
--- src/lib.rt:176:53
 lower-requires : tie.Need-lower-requires Inv-loop μ-loop
 lower-requires c κs = tt
 
--- src/lib.rt:176:9
 elements-cause-requires : tie.Need-elements-cause-requires Inv-loop μ-loop
-elements-cause-requires c κs = subst (λ z. z ≤ 11) (sym (c .lower .ensures)) (le-trans (min-le-left (c .before .before .before .before .before .loop .least) _) (c .before .before .before .before .before .loop .inv .small))
+elements-cause-requires c κs = subst (λ z. z ≤ 11) (sym (c .lower .ensures))
+    (le-trans (min-le-left (c .before .before .before .before .before .loop .least) _)
+    (c .before .before .before .before .before .loop .inv .small))
 
--- src/lib.rt:177:13
 add-i : tie.Need-add-i Inv-loop μ-loop
-add-i c = let g = going (c .before .before .before .before .before .before .loop .more) (c .before .before .before .before .before .before .loop .i) (length (c .before .before .before .before .before .before .before .before .args .s .now)) (c .before .before .before .before .before .loop-test .taken) in omega arith
+add-i c = let g = going (c .before .before .before .before .before .before .loop .more)
+    (c .before .before .before .before .before .before .loop .i)
+    (length (c .before .before .before .before .before .before .before .before .args .s .now))
+    (c .before .before .before .before .before .loop-test .taken) in omega arith
 
--- src/lib.rt:177:21
 mul-i : tie.Need-mul-i Inv-loop μ-loop
 mul-i c = let b = c .before .before .before .size .ensures .1 in omega arith
 
--- src/lib.rt:177:13
 add-i-2 : tie.Need-add-i-2 Inv-loop μ-loop
-add-i-2 c = let g = going (c .before .before .before .before .before .before .loop .more) (c .before .before .before .before .before .before .loop .i) (length (c .before .before .before .before .before .before .before .before .args .s .now)) (c .before .before .before .before .before .loop-test .taken) in let b = c .before .before .before .size .ensures .1 in omega arith
+add-i-2 c = let g = going (c .before .before .before .before .before .before .loop .more)
+    (c .before .before .before .before .before .before .loop .i)
+    (length (c .before .before .before .before .before .before .before .before .args .s .now))
+    (c .before .before .before .before .before .loop-test .taken) in
+    let b = c .before .before .before .size .ensures .1 in omega arith
 
--- src/lib.rt:178:9
 sub-more : tie.Need-sub-more Inv-loop μ-loop
-sub-more c = let g = going (c .before .before .before .before .before .before .loop .more) (c .before .before .before .before .before .before .loop .i) (length (c .before .before .before .before .before .before .before .before .args .s .now)) (c .before .before .before .before .before .loop-test .taken) in omega arith
+sub-more c = let g = going (c .before .before .before .before .before .before .loop .more)
+    (c .before .before .before .before .before .before .loop .i)
+    (length (c .before .before .before .before .before .before .before .before .args .s .now))
+    (c .before .before .before .before .before .loop-test .taken) in omega arith
 
--- src/lib.rt:174:5
 loop-less : tie.Need-loop-less Inv-loop μ-loop
-loop-less c = let g = going (c .before .before .before .before .before .before .loop .more) (c .before .before .before .before .before .before .loop .i) (length (c .before .before .before .before .before .before .before .before .args .s .now)) (c .before .before .before .before .before .loop-test .taken) in omega arith
+loop-less c = let g = going (c .before .before .before .before .before .before .loop .more)
+    (c .before .before .before .before .before .before .loop .i)
+    (length (c .before .before .before .before .before .before .before .before .args .s .now))
+    (c .before .before .before .before .before .loop-test .taken) in omega arith
 
--- src/lib.rt:174:5
 loop-again : tie.Need-loop-again Inv-loop μ-loop
-loop-again c = let g = going (c .before .before .before .before .before .before .loop .more) (c .before .before .before .before .before .before .loop .i) (length (c .before .before .before .before .before .before .before .before .args .s .now)) (c .before .before .before .before .before .loop-test .taken) in rows-more (c .before .before .before .before .before .before .before .before .args .words .now) (c .before .before .before .before .before .before .before .before .args .s .now) (c .before .before .before .before .before .before .before .before .args .x) (c .before .before .before .before .before .before .loop .more) (c .before .before .before .before .before .before .loop .i) (c .before .before .before .before .before .before .loop .least) _ (c .before .before .before .size .result) (c .before .lower .result) (c .elements-cause .result) _ (g .0) (g .1) (c .before .before .before .size .ensures .0 ∙ c .before .before .before .before .byte-at .ensures) (c .before .lower .ensures ∙ ap (min (c .before .before .before .before .before .before .loop .least)) (c .before .before .row-cause .ensures)) (c .elements-cause .ensures .0) (c .elements-cause .ensures .1) refl (c .before .before .before .before .before .before .loop .inv)
+loop-again c = let g = going (c .before .before .before .before .before .before .loop .more)
+    (c .before .before .before .before .before .before .loop .i)
+    (length (c .before .before .before .before .before .before .before .before .args .s .now))
+    (c .before .before .before .before .before .loop-test .taken) in
+    rows-more (c .before .before .before .before .before .before .before .before .args .words .now)
+    (c .before .before .before .before .before .before .before .before .args .s .now)
+    (c .before .before .before .before .before .before .before .before .args .x)
+    (c .before .before .before .before .before .before .loop .more)
+    (c .before .before .before .before .before .before .loop .i)
+    (c .before .before .before .before .before .before .loop .least) _ (c .before .before .before .size .result)
+    (c .before .lower .result) (c .elements-cause .result) _ (g .0) (g .1)
+    (c .before .before .before .size .ensures .0 ∙ c .before .before .before .before .byte-at .ensures)
+    (c .before .lower .ensures ∙ ap (min (c .before .before .before .before .before .before .loop .least))
+    (c .before .before .row-cause .ensures)) (c .elements-cause .ensures .0) (c .elements-cause .ensures .1) refl
+    (c .before .before .before .before .before .before .loop .inv)
 
--- src/lib.rt:166:1
 returns : tie.Need-returns Inv-loop μ-loop
-returns c = (rows-stop (c .before .before .before .args .words .now) (c .before .before .before .args .s .now) (c .before .before .before .args .x) (c .before .loop .more) (c .before .loop .i) (c .before .loop .least) _ (c .loop-test .left) (c .before .loop .inv), c .before .loop .inv .small)
+returns c = (
+  rows-stop (c .before .before .before .args .words .now) (c .before .before .before .args .s .now)
+      (c .before .before .before .args .x) (c .before .loop .more) (c .before .loop .i) (c .before .loop .least) _
+      (c .loop-test .left) (c .before .loop .inv),
+  c .before .loop .inv .small,
+)
 
 pub rows-cause-spec : {M : Type 1} → statement M
 rows-cause-spec =

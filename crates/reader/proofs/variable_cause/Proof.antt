@@ -1,28 +1,23 @@
-use borrow.Author.Needs.{needs}
 use Rattle.reader.proofs.variable_cause.Statement.{statement}
+use borrow.Author.Needs.{needs}
 use Rattle.reader.proofs.variable_cause.Tie as tie
 use Rattle.reader.proofs.variable_cause.Reads as reads
 use Rattle.reader.proofs.variable_cause.Lts as lts
 use Rattle.reader.proofs.pick.Reads as pick-reads
 use Rattle.scope.proofs.has.Reads as has-reads
 
--- src/lib.rt:59:23
 has-requires : tie.Need-has-requires
 has-requires c κs = search needs
 
--- src/lib.rt:59:38
 has-requires-2 : tie.Need-has-requires-2
 has-requires-2 c κs = search needs
 
--- src/lib.rt:59:18
 pick-requires : tie.Need-pick-requires
 pick-requires c κs = search needs
 
--- src/lib.rt:59:5
 pick-requires-2 : tie.Need-pick-requires-2
 pick-requires-2 c κs = search needs
 
--- src/lib.rt:56:1
 returns : tie.Need-returns
 returns c = cc
 

@@ -1,13 +1,9 @@
-use Rattle.syntax.proofs.Laws.{record-in, block-is, block-bare, with-bare, with-some}
-use mathlib.Core.Logic.{⊎-elim}
 use native.Mathlib.Omega.{arith}
-use mathlib.Core.Path.{_≡_, refl, sym, ap, _∙_}
-use mathlib.Core.Bool.{Bool, true, false, _&&_}
-use Prim.Native.Nat.{ℕ, suc, _+_, _*_, _-_, _≤_, _<_}
-use lib.ListN.{length}
-use Rattle.syntax.proofs.Laws.{record-in, block-is, block-bare, with-bare}
-use borrow.Author.Needs.{needs}
+use mathlib.Core.Logic.{⊎-elim}
+use mathlib.Core.Path.{sym, _∙_}
+use Rattle.syntax.proofs.Laws.{record-in, block-is, block-bare, with-bare, with-some}
 use Rattle.syntax.proofs.block_at.Statement.{statement}
+use borrow.Author.Needs.{needs}
 use Rattle.syntax.proofs.block_at.Tie as tie
 use Rattle.syntax.proofs.block_at.Reads as reads
 use Rattle.syntax.proofs.block_at.Lts as lts
@@ -17,65 +13,103 @@ use Rattle.syntax.proofs.record_ok.Reads as record-ok-reads
 use Rattle.syntax.proofs.run_of.Reads as run-of-reads
 use Rattle.syntax.proofs.size.Reads as size-reads
 
--- src/lib.rt:206:8
 record-ok-requires : tie.Need-record-ok-requires
 record-ok-requires c κs = search needs
 
--- src/lib.rt:207:18
 add-rw : tie.Need-add-rw
-add-rw c = let h = record-in 3 (c .before .before .before .args .s .now) (c .before .before .before .args .at) (sym (c .before .record-ok .ensures) ∙ c .if1 .taken) in omega arith
+add-rw c = let h = record-in 3 (c .before .before .before .args .s .now) (c .before .before .before .args .at)
+    (sym (c .before .record-ok .ensures) ∙ c .if1 .taken) in omega arith
 
--- src/lib.rt:208:13
 run-of-requires : tie.Need-run-of-requires
-run-of-requires c κs = let h = record-in 3 (c .before .before .before .args .s .now) (c .before .before .before .args .at) (sym (c .before .record-ok .ensures) ∙ c .if1 .taken) in omega arith
+run-of-requires c κs = let h = record-in 3 (c .before .before .before .args .s .now)
+    (c .before .before .before .args .at)
+    (sym (c .before .record-ok .ensures) ∙ c .if1 .taken) in omega arith
 
--- src/lib.rt:210:13
 run-of-requires-2 : tie.Need-run-of-requires-2
 run-of-requires-2 c κs = search needs
 
--- src/lib.rt:212:12
 record-ok-requires-2 : tie.Need-record-ok-requires-2
 record-ok-requires-2 c κs = search needs
 
--- src/lib.rt:214:27
 add-t10 : tie.Need-add-t10
-add-t10 c = let h = record-in 3 (c .before .before .before .before .before .before .before .args .s .now) (c .before .before .before .before .before .before .before .args .at) (sym (c .before .before .before .before .before .record-ok .ensures) ∙ c .before .before .before .before .if1 .taken) in let o = record-in 2 (c .before .before .before .before .before .before .before .args .s .now) (c .before .before .run-of2 .result .at) (sym (c .before .record-ok2 .ensures) ∙ c .if2 .taken) in omega arith
+add-t10 c = let h = record-in 3 (c .before .before .before .before .before .before .before .args .s .now)
+    (c .before .before .before .before .before .before .before .args .at)
+    (sym (c .before .before .before .before .before .record-ok .ensures)
+    ∙ c .before .before .before .before .if1 .taken) in
+    let o = record-in 2 (c .before .before .before .before .before .before .before .args .s .now)
+    (c .before .before .run-of2 .result .at) (sym (c .before .record-ok2 .ensures) ∙ c .if2 .taken) in
+    omega arith
 
--- src/lib.rt:214:25
 shared-slice-read-t12 : tie.Need-shared-slice-read-t12
-shared-slice-read-t12 c = let h = record-in 3 (c .before .before .before .before .before .before .before .before .args .s .now) (c .before .before .before .before .before .before .before .before .args .at) (sym (c .before .before .before .before .before .before .record-ok .ensures) ∙ c .before .before .before .before .before .if1 .taken) in let o = record-in 2 (c .before .before .before .before .before .before .before .before .args .s .now) (c .before .before .before .run-of2 .result .at) (sym (c .before .before .record-ok2 .ensures) ∙ c .before .if2 .taken) in omega arith
+shared-slice-read-t12 c =
+    let h = record-in 3 (c .before .before .before .before .before .before .before .before .args .s .now)
+    (c .before .before .before .before .before .before .before .before .args .at)
+    (sym (c .before .before .before .before .before .before .record-ok .ensures)
+    ∙ c .before .before .before .before .before .if1 .taken) in
+    let o = record-in 2 (c .before .before .before .before .before .before .before .before .args .s .now)
+    (c .before .before .before .run-of2 .result .at)
+    (sym (c .before .before .record-ok2 .ensures) ∙ c .before .if2 .taken) in omega arith
 
--- src/lib.rt:220:21
 add-t13 : tie.Need-add-t13
 add-t13 c = search needs
 
--- src/lib.rt:221:29
 add-size : tie.Need-add-size
 add-size c = search needs
 
--- src/lib.rt:221:27
 shared-slice-read-size : tie.Need-shared-slice-read-size
-shared-slice-read-size c = let h = record-in 3 (c .before .before .before .before .before .before .before .before .before .args .s .now) (c .before .before .before .before .before .before .before .before .before .args .at) (sym (c .before .before .before .before .before .before .before .record-ok .ensures) ∙ c .before .before .before .before .before .before .if1 .taken) in let o = record-in 2 (c .before .before .before .before .before .before .before .before .before .args .s .now) (c .before .before .before .before .run-of2 .result .at) (sym (c .before .before .before .record-ok2 .ensures) ∙ c .before .before .if2 .taken) in omega arith
+shared-slice-read-size c =
+    let h = record-in 3 (c .before .before .before .before .before .before .before .before .before .args .s .now)
+    (c .before .before .before .before .before .before .before .before .before .args .at)
+    (sym (c .before .before .before .before .before .before .before .record-ok .ensures)
+    ∙ c .before .before .before .before .before .before .if1 .taken) in
+    let o = record-in 2 (c .before .before .before .before .before .before .before .before .before .args .s .now)
+    (c .before .before .before .before .run-of2 .result .at)
+    (sym (c .before .before .before .record-ok2 .ensures) ∙ c .before .before .if2 .taken) in omega arith
 
--- src/lib.rt:221:22
 size-requires : tie.Need-size-requires
 size-requires c κs = search needs
 
--- src/lib.rt:222:22
 record-end-requires : tie.Need-record-end-requires
-record-end-requires c κs = (sym (c .before .before .before .before .record-ok2 .ensures) ∙ c .before .before .before .if2 .taken)
+record-end-requires c κs =
+    (sym (c .before .before .before .before .record-ok2 .ensures) ∙ c .before .before .before .if2 .taken)
 
--- src/lib.rt:213:13
 returns : tie.Need-returns
-returns c = cc (block-is (c .before .before .before .before .before .before .before .before .before .before .before .args .s .now) (c .before .before .before .before .before .before .before .before .before .before .before .args .at) (sym (c .before .before .before .before .before .before .before .before .before .record-ok .ensures) ∙ c .before .before .before .before .before .before .before .before .if1 .taken), with-some (c .before .before .before .before .before .before .before .before .before .before .before .args .s .now) (c .before .before .before .before .before .before .before .before .before .before .before .args .at) (c .before .before .before .before .before .before .before .run-of .result) (c .before .before .before .before .before .before .run-of2 .result) (c .before .size .result) (c .record-end .result) (sym (c .before .before .before .before .before .record-ok2 .ensures) ∙ c .before .before .before .before .if2 .taken) (c .before .size .ensures .0) (c .record-end .ensures), c .before .before .before .before .before .before .before .run-of .ensures .0, c .before .before .before .before .before .before .run-of2 .ensures .0)
+returns c =
+    cc (
+      block-is
+          (c .before .before .before .before .before .before .before .before .before .before .before .args .s .now)
+          (c .before .before .before .before .before .before .before .before .before .before .before .args .at)
+          (sym (c .before .before .before .before .before .before .before .before .before .record-ok .ensures)
+          ∙ c .before .before .before .before .before .before .before .before .if1 .taken),
+      with-some (c .before .before .before .before .before .before .before .before .before .before .before .args .s .now)
+          (c .before .before .before .before .before .before .before .before .before .before .before .args .at)
+          (c .before .before .before .before .before .before .before .run-of .result)
+          (c .before .before .before .before .before .before .run-of2 .result) (c .before .size .result)
+          (c .record-end .result) (sym (c .before .before .before .before .before .record-ok2 .ensures)
+          ∙ c .before .before .before .before .if2 .taken) (c .before .size .ensures .0) (c .record-end .ensures),
+      c .before .before .before .before .before .before .before .run-of .ensures .0,
+      c .before .before .before .before .before .before .run-of2 .ensures .0,
+    )
 
--- src/lib.rt:226:5
 no-block-requires : tie.Need-no-block-requires
 no-block-requires c κs = search needs
 
--- src/lib.rt:203:1
 returns-2 : tie.Need-returns-2
-returns-2 c = ⊎-elim (λ w. cc (block-is (c .before .before .before .before .args .s .now) (c .before .before .before .before .args .at) (sym (c .before .before .record-ok .ensures) ∙ w .0 .taken), with-bare (c .before .before .before .before .args .s .now) (c .before .before .before .before .args .at) (w .1 .result) (w .2 .result) (sym (w .3 .ensures) ∙ w .4 .left), w .1 .ensures .0, w .2 .ensures .0, c .no-block .ensures)) (λ w. cc (block-bare (c .before .before .before .before .args .s .now) (c .before .before .before .before .args .at) (sym (c .before .before .record-ok .ensures) ∙ w .left), c .no-block .ensures)) (c .before .if1 .came)
+returns-2 c =
+    ⊎-elim (λ w. cc (
+      block-is (c .before .before .before .before .args .s .now)
+          (c .before .before .before .before .args .at) (sym (c .before .before .record-ok .ensures) ∙ w .0 .taken),
+      with-bare (c .before .before .before .before .args .s .now) (c .before .before .before .before .args .at)
+          (w .1 .result) (w .2 .result) (sym (w .3 .ensures) ∙ w .4 .left),
+      w .1 .ensures .0,
+      w .2 .ensures .0,
+      c .no-block .ensures,
+    ))
+    (λ w. cc (
+      block-bare (c .before .before .before .before .args .s .now) (c .before .before .before .before .args .at)
+          (sym (c .before .before .record-ok .ensures) ∙ w .left),
+      c .no-block .ensures,
+    )) (c .before .if1 .came)
 
 pub block-at-spec : {M : Type 1} → statement M
 block-at-spec =

@@ -1,6 +1,6 @@
-use borrow.Author.Needs.{needs}
 use Rattle.syntax.proofs.Laws.{element-is}
 use Rattle.syntax.proofs.element_ok.Statement.{statement}
+use borrow.Author.Needs.{needs}
 use Rattle.syntax.proofs.element_ok.Tie as tie
 use Rattle.syntax.proofs.element_ok.Reads as reads
 use Rattle.syntax.proofs.element_ok.Lts as lts
@@ -9,55 +9,46 @@ use Rattle.syntax.proofs.five_zeros.Reads as five-zeros-reads
 use Rattle.syntax.proofs.takes_kind.Reads as takes-kind-reads
 use Rattle.syntax.proofs.word.Reads as word-reads
 
--- src/lib.rt:94:16
 shared-slice-read-kind : tie.Need-shared-slice-read-kind
 shared-slice-read-kind c = search needs
 
--- src/lib.rt:95:5
 takes-kind-requires : tie.Need-takes-kind-requires
 takes-kind-requires c κs = search needs
 
--- src/lib.rt:95:55
 add-word : tie.Need-add-word
 add-word c = search needs
 
--- src/lib.rt:95:47
 word-requires : tie.Need-word-requires
 word-requires c κs = search needs
 
--- src/lib.rt:95:66
 add-argument-ok : tie.Need-add-argument-ok
 add-argument-ok c = search needs
 
--- src/lib.rt:95:64
 shared-slice-read-argument-ok : tie.Need-shared-slice-read-argument-ok
 shared-slice-read-argument-ok c = search needs
 
--- src/lib.rt:95:77
 add-argument-ok-2 : tie.Need-add-argument-ok-2
 add-argument-ok-2 c = search needs
 
--- src/lib.rt:95:75
 shared-slice-read-argument-ok-2 : tie.Need-shared-slice-read-argument-ok-2
 shared-slice-read-argument-ok-2 c = search needs
 
--- src/lib.rt:95:100
 add-five-zeros : tie.Need-add-five-zeros
 add-five-zeros c = search needs
 
--- src/lib.rt:95:86
 five-zeros-requires : tie.Need-five-zeros-requires
 five-zeros-requires c κs = search needs
 
--- src/lib.rt:95:29
 argument-ok-requires : tie.Need-argument-ok-requires
 argument-ok-requires c κs = search needs
 
--- src/lib.rt:90:1
 returns : tie.Need-returns
 returns c =
-    element-is (c .before .before .before .before .before .before .before .before .args .rec) (c .before .before .before .before .before .before .before .before .args .s .now) (c .before .before .before .before .before .before .before .before .args .at) _ _ _ _
-    (c .before .before .before .before .before .takes-kind .ensures) (c .before .before .before .before .word .ensures) (c .before .five-zeros .ensures)
+    element-is (c .before .before .before .before .before .before .before .before .args .rec)
+    (c .before .before .before .before .before .before .before .before .args .s .now)
+    (c .before .before .before .before .before .before .before .before .args .at) _ _ _ _
+    (c .before .before .before .before .before .takes-kind .ensures)
+    (c .before .before .before .before .word .ensures) (c .before .five-zeros .ensures)
     (c .argument-ok .ensures)
 
 pub element-ok-spec : {M : Type 1} → statement M

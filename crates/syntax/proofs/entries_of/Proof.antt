@@ -1,56 +1,54 @@
 use native.Mathlib.Omega.{arith}
-use mathlib.Core.Path.{_≡_, refl, sym, ap, _∙_}
-use mathlib.Core.Bool.{Bool, true, false, _&&_}
-use Prim.Native.Nat.{ℕ, suc, _+_, _*_, _-_, _≤_, _<_}
-use lib.ListN.{length}
-use borrow.Author.Tests.{eq-eqb, ne-eqb}
+use mathlib.Core.Path.{ap}
 use Rattle.syntax.specs.Places.{headOf}
-use borrow.Author.Needs.{needs}
 use Rattle.syntax.proofs.entries_of.Statement.{statement}
+use borrow.Author.Needs.{needs}
+use borrow.Author.Tests.{eq-eqb, ne-eqb}
 use Rattle.syntax.proofs.entries_of.Tie as tie
 use Rattle.syntax.proofs.entries_of.Reads as reads
 use Rattle.syntax.proofs.entries_of.Lts as lts
 use Rattle.syntax.proofs.size.Reads as size-reads
 
--- src/lib.rt:139:23
 add-size : tie.Need-add-size
 add-size c = search needs
 
--- src/lib.rt:139:21
 shared-slice-read-size : tie.Need-shared-slice-read-size
 shared-slice-read-size c = omega (arith, ap headOf (c .before .if1 .taken))
 
--- src/lib.rt:139:9
 size-requires : tie.Need-size-requires
 size-requires c κs = search needs
 
--- src/lib.rt:139:9
 returns : tie.Need-returns
 returns c = (simp (eq-eqb _ _ (c .before .before .if1 .taken)) (c .size .ensures .0), c .size .ensures .1)
 
--- src/lib.rt:142:9
 returns-2 : tie.Need-returns-2
 returns-2 c = (simp (ne-eqb _ _ (c .before .if1 .left), eq-eqb _ _ (c .if2 .taken)), omega arith)
 
--- src/lib.rt:145:23
 add-size-2 : tie.Need-add-size-2
 add-size-2 c = search needs
 
--- src/lib.rt:145:21
 shared-slice-read-size-2 : tie.Need-shared-slice-read-size-2
 shared-slice-read-size-2 c = omega (arith, ap headOf (c .before .if3 .taken))
 
--- src/lib.rt:145:9
 size-requires-2 : tie.Need-size-requires-2
 size-requires-2 c κs = search needs
 
--- src/lib.rt:145:9
 returns-3 : tie.Need-returns-3
-returns-3 c = (simp (ne-eqb _ _ (c .before .before .before .before .if1 .left), ne-eqb _ _ (c .before .before .before .if2 .left), eq-eqb _ _ (c .before .before .if3 .taken)) (c .size2 .ensures .0), c .size2 .ensures .1)
+returns-3 c = (
+  simp (
+    ne-eqb _ _ (c .before .before .before .before .if1 .left),
+    ne-eqb _ _ (c .before .before .before .if2 .left),
+    eq-eqb _ _ (c .before .before .if3 .taken),
+  )
+      (c .size2 .ensures .0),
+  c .size2 .ensures .1,
+)
 
--- src/lib.rt:134:1
 returns-4 : tie.Need-returns-4
-returns-4 c = (simp (ne-eqb _ _ (c .before .before .if1 .left), ne-eqb _ _ (c .before .if2 .left), ne-eqb _ _ (c .if3 .left)), omega arith)
+returns-4 c = (
+  simp (ne-eqb _ _ (c .before .before .if1 .left), ne-eqb _ _ (c .before .if2 .left), ne-eqb _ _ (c .if3 .left)),
+  omega arith,
+)
 
 pub entries-of-spec : {M : Type 1} → statement M
 entries-of-spec =

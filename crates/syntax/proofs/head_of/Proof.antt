@@ -1,24 +1,16 @@
-use borrow.Author.Needs.{needs}
 use native.Mathlib.Omega.{arith}
-use mathlib.Core.Path.{_≡_, refl, sym, ap, _∙_}
-use mathlib.Core.Bool.{Bool, true, false, _&&_}
-use Prim.Native.Nat.{ℕ, suc, _+_, _*_, _-_, _≤_, _<_}
-use lib.ListN.{length}
-use borrow.Author.Tests.{eq-eqb, ne-eqb}
 use Rattle.syntax.proofs.head_of.Statement.{statement}
+use borrow.Author.Tests.{eq-eqb, ne-eqb}
 use Rattle.syntax.proofs.head_of.Tie as tie
 use Rattle.syntax.proofs.head_of.Reads as reads
 use Rattle.syntax.proofs.head_of.Lts as lts
 
--- src/lib.rt:126:9
 returns : tie.Need-returns
 returns c = (simp (eq-eqb _ _ (c .if1 .taken)), omega arith, omega arith)
 
--- src/lib.rt:129:9
 returns-2 : tie.Need-returns-2
 returns-2 c = (simp (ne-eqb _ _ (c .before .if1 .left), eq-eqb _ _ (c .if2 .taken)), omega arith, omega arith)
 
--- src/lib.rt:122:1
 returns-3 : tie.Need-returns-3
 returns-3 c = (simp (ne-eqb _ _ (c .before .if1 .left), ne-eqb _ _ (c .if2 .left)), omega arith, omega arith)
 

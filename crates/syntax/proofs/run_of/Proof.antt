@@ -1,13 +1,12 @@
-use borrow.Author.Needs.{needs}
-use native.Mathlib.Omega.{arith}
-use mathlib.Core.Path.{_≡_, refl, sym, ap, _∙_}
-use mathlib.Core.Bool.{Bool, true, false, _&&_}
-use Prim.Native.Nat.{ℕ, suc, _+_, _*_, _-_, _≤_, _<_}
-use lib.ListN.{length}
+use Prim.Native.Nat.{_+_, _-_, _≤_}
 use native.Mathlib.Nat.{sub-zero}
+use native.Mathlib.Omega.{arith}
+use mathlib.Core.Path.{_≡_, sym, _∙_}
+use lib.ListN.{length}
 use Rattle.syntax.specs.Places.{run}
 use Rattle.syntax.proofs.Laws.{run-turn, run-done, record-in}
 use Rattle.syntax.proofs.run_of.Statement.{statement}
+use borrow.Author.Needs.{needs}
 use Rattle.syntax.proofs.run_of.Tie as tie
 use Rattle.syntax.proofs.run_of.Reads as reads
 use Rattle.syntax.proofs.run_of.Lts as lts
@@ -20,33 +19,49 @@ Inv-loop rec s at i₀ n₀ i n = (n ≤ i) × (i ≤ length s) × (run (length 
 abbrev μ-loop : tie.MeasureT-loop
 μ-loop rec s at i₀ n₀ i n = length s - i
 
--- src/lib.rt:190:5
 loop-holds : tie.Need-loop-holds Inv-loop μ-loop
 loop-holds c = (omega arith, omega arith, simp sub-zero)
 
--- src/lib.rt:190:11
 record-ok-requires : tie.Need-record-ok-requires Inv-loop μ-loop
 record-ok-requires c κs = search needs
 
--- src/lib.rt:191:9
 record-end-requires : tie.Need-record-end-requires Inv-loop μ-loop
 record-end-requires c κs = (sym (c .before .record-ok .ensures) ∙ c .if1 .taken)
 
--- src/lib.rt:192:9
 add-n : tie.Need-add-n Inv-loop μ-loop
-add-n c = let h = record-in (c .before .before .before .before .before .args .rec) (c .before .before .before .before .before .args .s .now) (c .before .before .before .loop .i) (sym (c .before .before .record-ok .ensures) ∙ c .before .if1 .taken) in omega arith
+add-n c = let h = record-in (c .before .before .before .before .before .args .rec)
+    (c .before .before .before .before .before .args .s .now) (c .before .before .before .loop .i)
+    (sym (c .before .before .record-ok .ensures) ∙ c .before .if1 .taken) in omega arith
 
--- src/lib.rt:190:5
 loop-less : tie.Need-loop-less Inv-loop μ-loop
-loop-less c = let h = record-in (c .before .before .before .before .before .args .rec) (c .before .before .before .before .before .args .s .now) (c .before .before .before .loop .i) (sym (c .before .before .record-ok .ensures) ∙ c .before .if1 .taken) in omega arith
+loop-less c = let h = record-in (c .before .before .before .before .before .args .rec)
+    (c .before .before .before .before .before .args .s .now) (c .before .before .before .loop .i)
+    (sym (c .before .before .record-ok .ensures) ∙ c .before .if1 .taken) in omega arith
 
--- src/lib.rt:190:5
 loop-again : tie.Need-loop-again Inv-loop μ-loop
-loop-again c = let h = record-in (c .before .before .before .before .before .args .rec) (c .before .before .before .before .before .args .s .now) (c .before .before .before .loop .i) (sym (c .before .before .record-ok .ensures) ∙ c .before .if1 .taken) in let e : length (c .before .before .before .before .before .args .s .now) - (c .before .before .before .loop .n + 1) ≡ length (c .before .before .before .before .before .args .s .now) - c .before .before .before .loop .n - 1 = omega arith in (omega arith, omega arith, cc (run-turn (length (c .before .before .before .before .before .args .s .now) - c .before .before .before .loop .n) (c .before .before .before .before .before .args .rec) (c .before .before .before .before .before .args .s .now) (c .before .before .before .loop .n) (c .before .before .before .loop .i) (omega arith) (sym (c .before .before .record-ok .ensures) ∙ c .before .if1 .taken)))
+loop-again c = let h = record-in (c .before .before .before .before .before .args .rec)
+    (c .before .before .before .before .before .args .s .now) (c .before .before .before .loop .i)
+    (sym (c .before .before .record-ok .ensures) ∙ c .before .if1 .taken) in
+    let e : length (c .before .before .before .before .before .args .s .now)
+    - (c .before .before .before .loop .n + 1) ≡ length
+    (c .before .before .before .before .before .args .s .now) - c .before .before .before .loop .n - 1 =
+    omega arith in (
+      omega arith,
+      omega arith,
+      cc (run-turn (length (c .before .before .before .before .before .args .s .now)
+          - c .before .before .before .loop .n) (c .before .before .before .before .before .args .rec)
+          (c .before .before .before .before .before .args .s .now) (c .before .before .before .loop .n)
+          (c .before .before .before .loop .i) (omega arith)
+          (sym (c .before .before .record-ok .ensures) ∙ c .before .if1 .taken)),
+    )
 
--- src/lib.rt:184:1
 returns : tie.Need-returns Inv-loop μ-loop
-returns c = (cc (run-done (length (c .before .before .before .before .args .s .now) - c .before .before .loop .n) (c .before .before .before .before .args .rec) (c .before .before .before .before .args .s .now) (c .before .before .loop .n) (c .before .before .loop .i) (sym (c .before .record-ok .ensures) ∙ c .if1 .left)), c .before .before .loop .inv .1)
+returns c = (
+  cc (run-done (length (c .before .before .before .before .args .s .now) - c .before .before .loop .n)
+      (c .before .before .before .before .args .rec) (c .before .before .before .before .args .s .now)
+      (c .before .before .loop .n) (c .before .before .loop .i) (sym (c .before .record-ok .ensures) ∙ c .if1 .left)),
+  c .before .before .loop .inv .1,
+)
 
 pub run-of-spec : {M : Type 1} → statement M
 run-of-spec =
