@@ -1,6 +1,6 @@
 -- The descriptions below k are in their places.
 -- Assumes nothing.
-use Prim.Native.Nat.{_-_}
+use Prim.Native.Nat.{_-_, _<_}
 use native.Mathlib.Omega.{arith}
 use Rattle.outline.proofs.FillLaws.{Filled, filled-first, filled-next}
 use Rattle.outline.proofs.outlines_of.Statement.{statement}
@@ -30,7 +30,7 @@ mul-blocks : tie.Need-mul-blocks Inv-loop μ-loop
 mul-blocks c = omega (arith, c .before .loop-test .taken)
 
 array-set-from-blocks : tie.Need-array-set-from-blocks Inv-loop μ-loop
-array-set-from-blocks c = c .before .loop-test .taken
+array-set-from-blocks c = omega (arith, c .before .loop-test .taken)
 
 add-k : tie.Need-add-k Inv-loop μ-loop
 add-k c = omega (arith, c .before .loop-test .taken)
@@ -42,8 +42,8 @@ loop-again : tie.Need-loop-again Inv-loop μ-loop
 loop-again c =
     let a = c .before .before .before .before .before .args in
     let l = c .before .before .loop in
-    filled-next (a .s .now) (a .q) (l .blocks) (l .k) (c .outline-of2 .result) (c .before .loop-test .taken)
-    (c .outline-of2 .ensures) (l .inv)
+    let more : l .k < 5 = omega (arith, c .before .loop-test .taken) in
+    filled-next (a .s .now) (a .q) (l .blocks) (l .k) (c .outline-of2 .result) more (c .outline-of2 .ensures) (l .inv)
 
 returns : tie.Need-returns Inv-loop μ-loop
 returns c = λ k h o. c .before .loop .inv .filled k (omega (arith, h, c .loop-test .left)) o
