@@ -51,3 +51,5 @@ pub mod TableEquations
 pub mod TrialEquations
 pub mod ValueEquations
 pub mod BisectionLaws
+pub mod MetLaws
+pub mod ScanStepLaws

@@ -10,3 +10,4 @@ pub mod SortLaws
 pub mod IndexNumbers
 pub mod RangeLaws
 pub mod TriedLaws
+pub mod KeyLaws

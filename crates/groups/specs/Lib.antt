@@ -1,0 +1,3 @@
+-- Which aggregates name a block, and where their values lie.
+pub mod Asking
+pub mod Groups
