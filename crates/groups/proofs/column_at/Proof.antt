@@ -1,5 +1,4 @@
 -- Inside the list the default does not matter, past its end it stands. Assumes nothing.
-use Prim.Native.Nat.{_<_, _≤_}
 use borrow.Author.Needs.{needs}
 use lib.ListN.{length}
 use mathlib.Core.Path.{_≡_, sym}

@@ -1,0 +1,58 @@
+-- `filing::file_group` meets its contract: a group past 255, and one that is filled.
+use native.Mathlib.Omega.{arith}
+use mathlib.Core.Path.{sym}
+use Rattle.filing.proofs.Cases.{group-past, group-put}
+use borrow.Author.Needs.{needs}
+use Rattle.filing.proofs.file_group.Statement.{statement}
+use Rattle.filing.proofs.file_group.Tie as tie
+
+returns : tie.Need-returns
+returns c =
+    let given = c .before .args in
+    sym (group-past (given .a) (given .block) (given .group) (given .columns) (given .count) (given .sets .now)
+    (given .files .now) (omega arith))
+
+file-slot-requires : tie.Need-file-slot-requires
+file-slot-requires c κs = search needs
+
+file-slot-requires-2 : tie.Need-file-slot-requires-2
+file-slot-requires-2 c κs = search needs
+
+file-slot-requires-3 : tie.Need-file-slot-requires-3
+file-slot-requires-3 c κs = search needs
+
+place-in-requires : tie.Need-place-in-requires
+place-in-requires c κs = search needs
+
+write-requires : tie.Need-write-requires
+write-requires c κs = search needs
+
+same-length : tie.Need-same-length
+same-length c = search needs
+
+returns-2 : tie.Need-returns-2
+returns-2 c =
+    let written = c .before in
+    let placed = written .before in
+    let third = placed .before .before .before in
+    let second = third .before .before .before in
+    let first = second .before .before .before in
+    let given = first .before .before .before .args in
+    group-put (given .a) (given .block) (given .group) (given .columns) (given .count) (given .sets .now)
+    (given .files .now) (first .file-slot .last .0) (second .file-slot2 .last .0) (third .file-slot3 .last .0)
+    (written .write .last .0) (placed .place-in .result) (omega arith) (first .file-slot .ensures)
+    (second .file-slot2 .ensures) (third .file-slot3 .ensures) (placed .place-in .ensures .0)
+    (written .write .ensures .1)
+
+pub file-group-spec : {M : Type 1} → statement M
+file-group-spec =
+    tie.close
+    (tie.spec
+    returns
+    file-slot-requires
+    file-slot-requires-2
+    file-slot-requires-3
+    place-in-requires
+    write-requires
+    same-length
+    returns-2)

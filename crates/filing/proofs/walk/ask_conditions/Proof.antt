@@ -1,0 +1,112 @@
+-- `filing::walk::ask_conditions` meets its contract. The loop's invariant: the conditions left, after those passed,
+-- give the whole. Where the bytes end the elements left are empty.
+use native.Mathlib.Omega.{arith}
+use mathlib.Core.Path.{_≡_, refl}
+use lib.ListN.{length}
+use Rattle.model.specs.Lists.{concatMap}
+use Rattle.syntax.specs.Described.{conditionsAt}
+use Rattle.filing.specs.Asks.{askAll, sides}
+use Rattle.filing.proofs.Walks.{going, conditions-turn, conditions-done}
+use Rattle.filing.proofs.walk.ask_conditions.Statement.{statement}
+use Rattle.filing.proofs.walk.ask_conditions.Tie as tie
+
+abbrev Inv-loop : tie.InvT-loop
+Inv-loop s at n y₀ i₀ more₀ y i more =
+    askAll y (concatMap sides (conditionsAt s more i)) ≡ askAll y₀ (concatMap sides (conditionsAt s n at))
+
+abbrev μ-loop : tie.MeasureT-loop
+μ-loop s at n y₀ i₀ more₀ y i more = more
+
+loop-holds : tie.Need-loop-holds Inv-loop μ-loop
+loop-holds c = refl
+
+add-ask-at : tie.Need-add-ask-at Inv-loop μ-loop
+add-ask-at c =
+    let turn = c .before in
+    let bytes = turn .before .before .args .s .now in
+    let g = going (turn .loop .more) (turn .loop .i) (length bytes) (c .loop-test .taken) in
+    omega arith
+
+add-ask-at-2 : tie.Need-add-ask-at-2 Inv-loop μ-loop
+add-ask-at-2 c =
+    let turn = c .before in
+    let bytes = turn .before .before .args .s .now in
+    let g = going (turn .loop .more) (turn .loop .i) (length bytes) (c .loop-test .taken) in
+    omega arith
+
+-- the left element
+ask-at-requires : tie.Need-ask-at-requires Inv-loop μ-loop
+ask-at-requires c κs =
+    let turn = c .before in
+    let bytes = turn .before .before .args .s .now in
+    let g = going (turn .loop .more) (turn .loop .i) (length bytes) (c .loop-test .taken) in
+    omega arith
+
+-- the right element
+ask-at-requires-2 : tie.Need-ask-at-requires-2 Inv-loop μ-loop
+ask-at-requires-2 c κs =
+    let turn = c .before .before in
+    let bytes = turn .before .before .args .s .now in
+    let g = going (turn .loop .more) (turn .loop .i) (length bytes) (c .before .loop-test .taken) in
+    omega arith
+
+add-i : tie.Need-add-i Inv-loop μ-loop
+add-i c =
+    let turn = c .before .before .before in
+    let bytes = turn .before .before .args .s .now in
+    let g = going (turn .loop .more) (turn .loop .i) (length bytes) (c .before .before .loop-test .taken) in
+    omega arith
+
+sub-more : tie.Need-sub-more Inv-loop μ-loop
+sub-more c =
+    let turn = c .before .before .before in
+    let bytes = turn .before .before .args .s .now in
+    let g = going (turn .loop .more) (turn .loop .i) (length bytes) (c .before .before .loop-test .taken) in
+    omega arith
+
+loop-less : tie.Need-loop-less Inv-loop μ-loop
+loop-less c =
+    let turn = c .before .before .before in
+    let bytes = turn .before .before .args .s .now in
+    let g = going (turn .loop .more) (turn .loop .i) (length bytes) (c .before .before .loop-test .taken) in
+    omega arith
+
+-- one condition more
+loop-again : tie.Need-loop-again Inv-loop μ-loop
+loop-again c =
+    let turn = c .before .before .before in
+    let bytes = turn .before .before .args .s .now in
+    let g = going (turn .loop .more) (turn .loop .i) (length bytes) (c .before .before .loop-test .taken) in
+    cc (
+      turn .loop .inv,
+      c .before .ask-at .ensures,
+      c .ask-at2 .ensures,
+      conditions-turn bytes (turn .loop .y) (turn .loop .more) (turn .loop .i) (g .0),
+    )
+
+-- none left, or the bytes end
+returns : tie.Need-returns Inv-loop μ-loop
+returns c =
+    let turn = c .before in
+    let bytes = turn .before .before .args .s .now in
+    cc (
+      turn .loop .inv,
+      conditions-done bytes (turn .loop .y) (turn .loop .more) (turn .loop .i) (c .loop-test .left),
+    )
+
+pub ask-conditions-spec : {M : Type 1} → statement M
+ask-conditions-spec =
+    tie.close
+    (tie.spec
+    Inv-loop
+    μ-loop
+    loop-holds
+    add-ask-at
+    add-ask-at-2
+    ask-at-requires
+    ask-at-requires-2
+    add-i
+    sub-more
+    loop-less
+    loop-again
+    returns)

@@ -1,0 +1,69 @@
+-- The files in words. Block k's region is the 1,024 values from place 1024 * (k - 1) on, in 256 groups of four: a mark,
+-- 1 where the group is filled, and one value for each of the block's three slots.
+--   isFiled fl k n             group n of block k is filled: its mark is at least 1
+--   wordsBefore k              the words before the region of block k; wordsIn n: the words of n groups, 256 at most
+--   emptied k n fl             the first n groups of block k made zero, fl itself where the words end before
+--   told g                     the value of aggregate g, 0/0 where there is none
+--   slotValue a k i m n s      what slot i of block k asks for, of the set of n rows and m columns in the words s
+--   slotFiled a k g i m n s fl that value put into slot i of group g, fl itself where the slot asks for nothing
+--   slotsFiled a k g m n s fl  the three slots of group g filled; filed a k g m n s fl: these, and the mark; fl itself
+--                              where g is past 255
+--   region k fl                the words of the region of block k
+use Prim.Native.Nat.{ℕ, _+_, _*_, _-_, min}
+use mathlib.Core.Bool.{Bool, false, cond}
+use mathlib.Core.List.{List, _++_}
+use lib.Dec.{eqb, ltb, leb}
+use lib.IntN.{ℤ, pos}
+use lib.ListN.{length, take, drop}
+use lib.Signed.{leZ}
+use Rattle.groups.specs.Asking.{functionAt, columnAt}
+use Rattle.groups.specs.Groups.{placeIn}
+use Rattle.groups.specs.declared.Asked.{Asked}
+use Rattle.rows.specs.Columns.{aggregateIn}
+use Rattle.rows.specs.Words.{readAt, wordsWith, wordsZeroed}
+use Rattle.rows.specs.declared.Aggregate.{Aggregate}
+use Rattle.rows.specs.declared.Aggregate.the-variants.{Of, Outside, Refused}
+use Rattle.value.specs.declared.Value.{Value}
+
+unfoldable pub isFiled : List ℤ → ℕ → ℕ → Bool
+isFiled fl k n = cond (ltb n 256) (leZ (pos 1) (readAt fl (placeIn k n) .num)) false
+
+abbrev pub wordsBefore : ℕ → ℕ
+wordsBefore k = 2048 * (k - 1)
+
+abbrev pub wordsIn : ℕ → ℕ
+wordsIn n = 8 * min n 256
+
+unfoldable pub emptied : ℕ → ℕ → List ℤ → List ℤ
+emptied k n fl =
+    cond (leb (wordsBefore k + wordsIn n) (length fl))
+    (take (wordsBefore k) fl ++ wordsZeroed (wordsIn n) (drop (wordsBefore k) fl))
+    fl
+
+abbrev pub told : Aggregate → Value
+told (Of v) = v
+told Outside = record { num = pos 0; den = pos 0 }
+told Refused = record { num = pos 0; den = pos 0 }
+
+unfoldable pub slotValue : Asked → (k i columns count : ℕ) → List ℤ → Value
+slotValue a k i columns count sets =
+    told (aggregateIn (functionAt a (3 * k + i)) (columnAt a (3 * k + i)) columns count sets)
+
+unfoldable pub slotFiled : Asked → (k n i columns count : ℕ) → List ℤ → List ℤ → List ℤ
+slotFiled a k n i columns count sets fl =
+    cond (eqb (functionAt a (3 * k + i)) 255) fl
+    (wordsWith fl (placeIn k n + 1 + i) (slotValue a k i columns count sets))
+
+unfoldable pub slotsFiled : Asked → (k n columns count : ℕ) → List ℤ → List ℤ → List ℤ
+slotsFiled a k n columns count sets fl =
+    slotFiled a k n 2 columns count sets
+    (slotFiled a k n 1 columns count sets (slotFiled a k n 0 columns count sets fl))
+
+unfoldable pub filed : Asked → (k n columns count : ℕ) → List ℤ → List ℤ → List ℤ
+filed a k n columns count sets fl =
+    cond (ltb n 256)
+    (wordsWith (slotsFiled a k n columns count sets fl) (placeIn k n) (record { num = pos 1; den = pos 1 }))
+    fl
+
+unfoldable pub region : ℕ → List ℤ → List ℤ
+region k fl = take 2048 (drop (wordsBefore k) fl)

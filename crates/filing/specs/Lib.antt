@@ -1,0 +1,3 @@
+-- Which aggregates a question asks of its blocks, and the files that tell their values.
+pub mod Asks
+pub mod Files

@@ -1,0 +1,75 @@
+// Which aggregates a question asks of its blocks, and the files that tell their values (01, "work buffer": 8,192 words
+// for aggregate files). A block's file has 256 groups; a group is filled from a set of the block's rows, and then tells
+// the aggregates of that set. Every function takes every number: a group past 255 has no values, and what the words
+// have no room for is not written.
+mod slots;
+mod walk;
+
+use groups::Asked;
+use syntax::Question;
+use value::Value;
+ghost use mathlib.Core.Path.{_≡_};
+ghost use Rattle.limits.specs.Limits.{othersIn};
+ghost use Rattle.filing.specs.Asks.{noAsked, askAll};
+ghost use Rattle.filing.specs.Files.{isFiled, emptied, filed};
+
+// The aggregates that the conditions and output lists of a question ask of each block.
+pub fn asks_of(s: &[u8], q: Question) -> Asked
+    ensures { λ r. ⌜ r ≡ askAll noAsked (othersIn (now (s .entry)) q) ⌝ }
+{
+    let mut y = walk::no_asked();
+    let mut k = 0;
+    let n = q.count;
+    while (k < 5) & (k < n) {
+        y = walk::ask_block(s, q.blocks[k], y);
+        k += 1;
+    }
+    y
+}
+
+// Whether a group of a block is filled.
+pub fn is_filed(files: &[i64], block: u8, group: usize) -> bool
+    ensures { λ r. ⌜ r ≡ isFiled (now (files .entry)) block group ⌝ }
+{
+    if group >= 256 {
+        return false;
+    }
+    slots::marked(rows::read(files, slots::place_in(block, group)))
+}
+
+// The first groups of a block made empty, if the words have room for them.
+pub fn empty_file(files: &mut [i64], block: u8, groups: usize)
+    ensures { λ _. ⌜ now (files .exit) ≡ emptied block groups (now (files .entry)) ⌝ }
+{
+    let at = 2048 * slots::regions_before(block);
+    let n = slots::words_in(groups);
+    if files.len() < at + n {
+        return;
+    }
+    rows::zero(&mut files[at..], n);
+}
+
+// A group of a block filled: what its slots ask for, of a set of count rows in the words, and the mark.
+pub fn file_group(
+    files: &mut [i64],
+    a: Asked,
+    block: u8,
+    group: usize,
+    sets: &[i64],
+    columns: usize,
+    count: usize,
+)
+    ensures { λ _. ⌜ now (files .exit) ≡ filed a block group columns count (now (sets .entry)) (now (files .entry)) ⌝ }
+{
+    if group >= 256 {
+        return;
+    }
+    slots::file_slot(files, a, block, group, 0, sets, columns, count);
+    slots::file_slot(files, a, block, group, 1, sets, columns, count);
+    slots::file_slot(files, a, block, group, 2, sets, columns, count);
+    rows::write(
+        files,
+        slots::place_in(block, group),
+        Value { num: 1, den: 1 },
+    );
+}
