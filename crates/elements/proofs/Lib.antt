@@ -1,0 +1,2 @@
+mod ElementSteps
+pub mod ElementLaws
