@@ -1,0 +1,7 @@
+-- The laws that other crates cite; CodeLaws serves the functions.
+pub mod SureLaws
+pub mod RowLaws
+pub mod AccessLaws
+pub mod KeyLaws
+pub mod EmptyLaws
+mod CodeLaws

@@ -1,0 +1,5 @@
+-- What an evaluation promises.
+pub mod Clock
+pub mod Standing
+pub mod Leaves
+pub mod Steps
