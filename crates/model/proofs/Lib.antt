@@ -53,3 +53,4 @@ pub mod ValueEquations
 pub mod BisectionLaws
 pub mod MetLaws
 pub mod ScanStepLaws
+pub mod ListingExamples

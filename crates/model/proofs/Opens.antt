@@ -6,6 +6,8 @@ use Rattle.model.specs.Checks.{countsFit, placed, blockThere, allThere, 
 use Rattle.model.specs.Format.{after, _>>=_, give, fail, only, times, byte, eight, number64, signed}
 use Rattle.model.specs.Format.{aggregateIs, elementOf, element, relation, condition, output}
 use Rattle.model.specs.Index.{byValue, indexOf, indexCauses, indexNumber, indexAfter}
+use Rattle.model.specs.Listing.{contents, partOf, parts, jobOf, signed32, wordsOf, digitsIn, digits, integerText}
+use Rattle.model.specs.Listing.{valueText, rowText, rowsText, okLine, noLine, answerText, jobText, listingOf}
 use Rattle.model.specs.Lists.{all, any, filter, sumOver, overwrite, range, concatMap}
 use Rattle.model.specs.Matching.{live, matches, valueAt, holds, noSets, plainHold, passing, heldMatches}
 use Rattle.model.specs.Matching.{outputRows, setOf, children, largeBelow, result, tooLarge}
@@ -36,5 +38,6 @@ unfolding all any filter sumOver overwrite range concatMap tables columns rows c
     largeBelow result tooLarge admits planOf planRecord planAdmitted wanted rowsHaving triedRows fileTrials ownTrials
     wants firsts evaluatedAt trialsIn trials firstOf workLong resultLong bufferCauses dataCauses questionCauses
     planCauses causes refusal byValue indexOf indexCauses indexNumber indexAfter settled ranTo outcomeOf answerOf
-    writtenOf resultAfter workAfter
+    writtenOf resultAfter workAfter contents partOf parts jobOf signed32 wordsOf digitsIn digits integerText valueText
+    rowText rowsText okLine noLine answerText jobText listingOf
 opens = tt

@@ -17,3 +17,4 @@ pub mod Index
 pub mod Outcome
 pub mod Answer
 pub mod PlanAgreement
+pub mod Listing

@@ -1,0 +1,9 @@
+pub mod WroteLaws
+pub mod DigitLaws
+pub mod SignLaws
+pub mod PlaceLaws
+pub mod WordLaws
+pub mod RowLaws
+pub mod TextLaws
+pub mod JobLaws
+pub mod ListingLaws
