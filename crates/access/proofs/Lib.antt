@@ -1,7 +1,9 @@
 -- The laws that other crates cite; CodeLaws serves the functions.
 pub mod SureLaws
+pub mod SureBlocks
 pub mod RowLaws
 pub mod AccessLaws
 pub mod KeyLaws
 pub mod EmptyLaws
+pub mod IndexingLaws
 mod CodeLaws

@@ -1,3 +1,4 @@
--- What an evaluation looks at, and which rows it tries.
+-- What an evaluation looks at, which rows it tries, and the indexes it scans by.
 pub mod World
 pub mod Access
+pub mod Indexing

@@ -16,3 +16,6 @@ pub mod ReachLaws
 pub mod BlockSteps
 pub mod AnswerSteps
 pub mod MatchReturns
+pub mod SettleLaws
+pub mod RefusalSteps
+pub mod RunSteps

@@ -3,3 +3,5 @@ pub mod Clock
 pub mod Standing
 pub mod Leaves
 pub mod Steps
+pub mod Settling
+pub mod Runs

@@ -7,12 +7,13 @@
 --     named              the blocks that its aggregates name, as a set
 --     ratios             its output columns that are ratios, as a set
 --     live               the places of its relation rows that are not dropped: their tables, their entries
-use Prim.Native.Nat.{ℕ}
+--     few, three         they are at most three, in an array of three
+use Prim.Native.Nat.{ℕ, _≤_}
 use mathlib.Core.Bool.{Bool, _&&_}
 use mathlib.Core.List.{List}
 use mathlib.Core.Path.{_≡_}
 use lib.Dec.{eqb}
-use lib.ListN.{take}
+use lib.ListN.{length, take}
 use Rattle.model.specs.Checks.{ratioAt}
 use Rattle.model.specs.Matching.{live}
 use Rattle.model.specs.Question.{blockAt, namesIn}
@@ -32,3 +33,5 @@ pub record Outlined (bs : List ℕ) (q : Question) (k : ℕ) (o : Outline) : Typ
   pub named-are : o .named ≡ maskOf (λ c. namesIn c (blockAt (blocksIn bs q) k))
   pub ratios-are : o .ratios ≡ maskOf (ratioAt levels (blocksIn bs q) k)
   pub live-are : rowsIn bs (o .live) ≡ take most (live (blockAt (blocksIn bs q) k))
+  pub few : o .live .count ≤ 3
+  pub three : length (o .live .places) ≡ 3

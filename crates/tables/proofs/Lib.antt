@@ -11,3 +11,4 @@ pub mod IndexNumbers
 pub mod RangeLaws
 pub mod TriedLaws
 pub mod KeyLaws
+pub mod ZeroLaws

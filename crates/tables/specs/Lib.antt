@@ -2,3 +2,4 @@ pub mod Layout
 pub mod Places
 pub mod Ranges
 pub mod Insertion
+pub mod Zeroing

@@ -34,7 +34,9 @@ returns c =
       level-is = c .before .before .before .level .ensures s;
       named-are = c .before .before .named .ensures ∙ ap (λ b. maskOf (λ k. namesIn k b)) there;
       ratios-are = c .before .ratios-of .ensures;
-      live-are = c .live-of .ensures ∙ ap (λ b. take most (live b)) there;
+      live-are = c .live-of .ensures .0 ∙ ap (λ b. take most (live b)) there;
+      few = c .live-of .ensures .1 .0;
+      three = c .live-of .ensures .1 .1;
     }
 
 pub outline-of-spec : {M : Type 1} → statement M
