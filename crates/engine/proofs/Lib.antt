@@ -19,3 +19,4 @@ pub mod MatchReturns
 pub mod SettleLaws
 pub mod RefusalSteps
 pub mod RunSteps
+pub mod RunsAgree

@@ -5,3 +5,4 @@ pub mod Leaves
 pub mod Steps
 pub mod Settling
 pub mod Runs
+pub mod RunAgreement
