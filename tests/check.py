@@ -29,8 +29,8 @@ JOBS_SEED, JOBS = 4747, 260
 INDEX_SEED, INDEX_CALLS = 474, 60
 MOST_PLANS = 24
 PROGRAMS = {"value_expected.py": "value_test", "tables_expected.py": "tables_test",      # who computes the stdout of
-            "reader_expected.py": "reader_test"}
-INPUTS = {"reader_jobs.py": "reader_test"}                                               # who writes the stdin of
+            "reader_expected.py": "reader_test", "cases_expected.py": "cases", "listing_expected.py": "listing"}
+INPUTS = {"reader_jobs.py": "reader_test", "cases_jobs.py": "cases", "listing_job.py": "listing"}   # .. the stdin of
 
 
 class Differs(Exception):
@@ -239,7 +239,7 @@ def check_programs():
         same(f"crates/{crate}/stdin", output_of(script), (crates / crate / "stdin").read_bytes())
     for script, crate in PROGRAMS.items():
         same(f"crates/{crate}/stdout", output_of(script), (crates / crate / "stdout").read_bytes())
-    return f"{len(PROGRAMS)} programs' outputs and {len(INPUTS)} input"
+    return f"{len(PROGRAMS)} programs' outputs and {len(INPUTS)} inputs"
 
 
 # --apart leaves out the first, which looks outside this folder

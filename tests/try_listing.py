@@ -1,0 +1,84 @@
+#!/usr/bin/env python3
+"""Tries the built program named listing on fresh jobs: `try_listing.py COUNT SEED`. Not part of the gate.
+
+The stored listing jobs come first, with the text stored for each, then the longest jobs of edges.py, then COUNT random
+jobs of SEED with the evaluator's text. The listing has a budget and buffers of its own: those of a random job are left
+out of account. Needs target/bin/listing (`rt check listing`). Where one differs its bytes go to differs.job in the
+folder for temporary files, and the status is 1.
+"""
+
+import itertools
+import sys
+import tempfile
+import time
+from pathlib import Path
+
+import edges
+import evaluator
+import format as fmt
+import generate
+from built import built_listing
+from naive.matching import Matching
+from naive.plan import read_plan
+from naive.question import read_question
+from naive.tables import tables_of
+from naive.trials import Spent, Trials
+from reader_expected import number_of
+
+STORED = Path(__file__).resolve().parent / "stored" / "listing"
+BETWEEN = 200               # jobs from one line of progress to the next
+MOST_TRIALS = 300_000       # a changed question may try so many rows that the evaluator takes too long
+
+
+def short_enough(job):
+    """The evaluator answers the job soon."""
+    if number_of(job.data, job.question, job.plan) != 0:
+        return True
+    blocks = read_question(job.question)
+    try:
+        Trials(Matching(blocks, tables_of(job.data)), read_plan(job.plan, blocks), MOST_TRIALS).count()
+        return True
+    except Spent:
+        return False
+
+
+def stored_jobs():
+    """The stored jobs and the longest ones: name, bytes, text."""
+    for path in sorted(STORED.glob("*.job")):
+        yield path.stem, path.read_bytes(), path.with_suffix(".out").read_text()
+    yield from edges.long_listing_jobs()
+
+
+def random_jobs(count, seed):
+    """Fresh jobs with the evaluator's text."""
+    for place, job in enumerate(generate.random_jobs(seed, count)):
+        if short_enough(job):
+            content = fmt.job_bytes(job)
+            yield f"job {place} of seed {seed}", content, evaluator.listing(content)
+
+
+def differs(name, job, got, wanted):
+    """Tells of a difference and ends."""
+    kept = Path(tempfile.gettempdir()) / "differs.job"
+    kept.write_bytes(job)
+    print(f"{name} DIFFERS; its bytes are in {kept}\n  got    {got[:400]!r}\n  wanted {wanted[:400]!r}")
+    sys.exit(1)
+
+
+def main(arguments):
+    if len(arguments) != 2 or not all(word.isdigit() for word in arguments):
+        sys.exit("usage: try_listing.py COUNT SEED")
+    count, seed = map(int, arguments)
+    began, tried, accepted = time.monotonic(), 0, 0
+    for name, job, wanted in itertools.chain(stored_jobs(), random_jobs(count, seed)):
+        got = built_listing(job)
+        if got != wanted:
+            differs(name, job, got, wanted)
+        tried, accepted = tried + 1, accepted + wanted.startswith("ok")
+        if tried % BETWEEN == 0:
+            print(f"{tried} jobs agree, {accepted} of them accepted, {time.monotonic() - began:.0f} s", flush=True)
+    print(f"all {tried} jobs agree, {accepted} of them accepted, {time.monotonic() - began:.0f} s")
+
+
+if __name__ == "__main__":
+    main(sys.argv[1:])
