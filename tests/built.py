@@ -1,17 +1,23 @@
-"""The program named listing as `rt check` builds it: where it stands, and what it prints for a job."""
+"""The program named listing: proved and built by `rt check listing` where it is not there yet, and what it prints for a
+job.
+"""
 
 import subprocess
 import sys
 from pathlib import Path
 
+TOP = Path(__file__).resolve().parent.parent
 LONGEST_SECONDS = 600
 
 
 def listing_program():
-    """The path of the built program."""
-    path = Path(__file__).resolve().parent.parent / "target" / "bin" / "listing"
+    """The path of the built program, which is proved and built first where it is not there (some minutes)."""
+    path = TOP / "target" / "bin" / "listing"
     if not path.exists():
-        sys.exit(f"{path} is not there: `rt check listing` proves and builds it")
+        print("proving and building the program listing, once: some minutes", file=sys.stderr)
+        done = subprocess.run(["rt", "check", "listing"], cwd=TOP, capture_output=True, text=True)
+        if done.returncode != 0 or not path.exists():
+            sys.exit(f"`rt check listing` failed:\n{done.stdout[-2000:]}{done.stderr[-2000:]}")
     return path
 
 
