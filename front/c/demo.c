@@ -1,0 +1,106 @@
+/* Job J of the scope paper from C: which pans there are, and the average Brix of each pan's samples. The question and the
+ * plan are put together record by record, the answer is printed as the program `listing` prints it; then three refusals
+ * and an index. */
+#include <inttypes.h>
+#include <stdio.h>
+#include <string.h>
+
+#include "abe.h"
+
+static int64_t sets[ABE_SETS_WORDS], files[ABE_FILES_WORDS], result[ABE_RESULT_WORDS];
+static uint16_t indexes[ABE_INDEXES_WORDS];
+static uint64_t figures[ABE_FIGURES_WORDS];
+
+/* Bytes under way. */
+static uint8_t bytes[1024];
+static size_t used;
+
+static void byte(unsigned b) { bytes[used++] = (uint8_t)b; }
+static void mark(const char *two) { byte((uint8_t)two[0]); byte((uint8_t)two[1]); }
+
+/* An element: its kind and an 8-byte little-endian argument. */
+static void element(unsigned kind, uint64_t argument) {
+    byte(kind);
+    for (int i = 0; i < 8; i++) byte((argument >> (8 * i)) & 255);
+}
+static void variable(unsigned v) { element(2, v); }
+static void fixed(unsigned v) { element(3, v); }
+static void aggregate(unsigned function, unsigned block, unsigned column) {
+    element(4, function | (uint64_t)block << 8 | (uint64_t)column << 16);
+}
+
+static void block(unsigned parent) { mark("BK"); byte(parent); }
+static void relation_row(unsigned table, unsigned entries) { mark("RW"); byte(table); byte(entries); }
+static void output_list(unsigned columns) { mark("OL"); byte(columns); }
+static void path(unsigned way, unsigned column) { mark("PL"); byte(way); byte(column); }
+
+/* One run on the buffers above, of which the sets are lent with a length of the caller's choice. */
+static unsigned run(const int32_t *words, size_t words_len, const uint8_t *question, size_t question_len,
+                    const uint8_t *plan, size_t plan_len, uint64_t budget, size_t sets_len) {
+    return abe_run(words, words_len, question, question_len, plan, plan_len, budget, sets, sets_len,
+                   files, ABE_FILES_WORDS, indexes, ABE_INDEXES_WORDS, result, ABE_RESULT_WORDS,
+                   figures, ABE_FIGURES_WORDS);
+}
+
+static void print_answer(unsigned number) {
+    if (number != ABE_OK) {
+        printf("no %u\n", number);
+        return;
+    }
+    uint64_t rows = figures[ABE_ROWS], columns = figures[ABE_COLUMNS];
+    printf("ok %" PRIu64 " %" PRIu64 " %" PRIu64 "\n", rows, columns, figures[ABE_TRIALS]);
+    for (uint64_t r = 0; r < rows; r++)
+        for (uint64_t c = 0; c < columns; c++) {
+            int64_t n = result[ABE_NUMERATOR(r, c, columns)], d = result[ABE_DENOMINATOR(r, c, columns)];
+            printf("%" PRId64, n);
+            if (d != 1) printf("/%" PRId64, d);
+            putchar(c + 1 < columns ? ' ' : '\n');
+        }
+}
+
+int main(void) {
+    /* Two tables: pan (one column, four rows); sample, pan, tenths of Brix (three columns, four rows). */
+    static const int32_t words[] = {2, 1, 4, 3, 4,
+                                    1, 2, 3, 2,
+                                    11, 1, 910, 12, 1, 913, 13, 2, 905, 14, 2, 905};
+    const size_t words_len = sizeof words / sizeof words[0];
+    const uint64_t budget = 1000000000;
+
+    uint8_t question[256], plan[8];
+    block(255);
+    relation_row(0, 1), variable(0);
+    output_list(2), variable(0), aggregate(4, 1, 1);
+    block(0);
+    relation_row(1, 3), variable(1), fixed(0), variable(2);
+    output_list(2), variable(1), variable(2);
+    mark("EN");
+    const size_t question_len = used;
+    memcpy(question, bytes, used);
+
+    used = 0;
+    path(0, 0), path(2, 1);
+    const size_t plan_len = used;
+    memcpy(plan, bytes, used);
+
+    print_answer(run(words, words_len, question, question_len, plan, plan_len, budget, ABE_SETS_WORDS));
+
+    /* Refusals: the result keeps its words. */
+    int64_t before[ABE_RESULT_WORDS];
+    memcpy(before, result, sizeof before);
+    printf("sets one word short: ");
+    print_answer(run(words, words_len, question, question_len, plan, plan_len, budget, ABE_SETS_WORDS - 1));
+    printf("a mark damaged: ");
+    question[0] ^= 1;
+    print_answer(run(words, words_len, question, question_len, plan, plan_len, budget, ABE_SETS_WORDS));
+    question[0] ^= 1;
+    printf("budget 7: ");
+    print_answer(run(words, words_len, question, question_len, plan, plan_len, 7, ABE_SETS_WORDS));
+    printf("result %s\n", memcmp(before, result, sizeof before) == 0 ? "kept" : "CHANGED");
+
+    uint16_t order[4];
+    unsigned number = abe_index(words, words_len, 1, 2, order, 4);
+    printf("index of Brix: %u;", number);
+    for (int i = 0; i < 4; i++) printf(" %u", (unsigned)order[i]);
+    putchar('\n');
+    return 0;
+}

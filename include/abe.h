@@ -1,0 +1,82 @@
+/* The query engine for C. The archive that goes with it is built by `rt staticlib capi` (target/staticlib/libcapi.a);
+ * `front/run` builds and runs a program over it. "01" is the scope paper: it has the formats of data, question and plan.
+ *
+ * Each slice is passed as a pointer and its length in elements (not bytes). A pointer is never null, is aligned for its
+ * type and has that many readable elements, also where the length is 0; a buffer that is not const is writable and
+ * overlaps no other argument. Nothing else is asked: for all bytes, words, lengths and budgets the calls end and answer
+ * with one of the numbers below. They keep no state, allocate nothing and may run at once on buffers of their own. */
+#ifndef ABE_H
+#define ABE_H
+
+#include <stddef.h>
+#include <stdint.h>
+
+#ifdef __cplusplus
+extern "C" {
+#endif
+
+/* Numbers. The lowest that applies is given; 0 is accepted. */
+#define ABE_OK           0  /* accepted */
+#define ABE_WORK_SHORT   1  /* sets, files or indexes shorter than below, or fewer than four words for the figures */
+#define ABE_RESULT_SHORT 2  /* result under 2,048 words; of abe_index: out has fewer words than the table has rows */
+#define ABE_DATA_LAYOUT  3  /* data: counts, length or layout */
+#define ABE_DATA_VALUE   4  /* data: a value out of -1,000,000 to 1,000,000 */
+#define ABE_MALFORMED    5  /* question: records or their order, kinds, codes, argument bytes that must be 0, cut or tail */
+#define ABE_COUNT        6  /* question: too many or no blocks or output columns, too many RW, CD or aggregates of a block */
+#define ABE_ABSENT       7  /* question: absent table, column or parent, entry count not the table's columns, variable not
+                               0 to 15, fifth level, aggregate not of a child; of abe_index: absent table or column */
+#define ABE_SCOPE        8  /* question: variable in two blocks or in no RW of its block, fixed variable of no ancestor */
+#define ABE_RATIO        9  /* question: sum or ave of a ratio column */
+#define ABE_CONSTANT    10  /* question: constant beyond plus or minus 1,000,000,000,000,000 */
+#define ABE_PLAN        11  /* plan malformed or not admitted */
+#define ABE_BUDGET      12  /* trials exceed the budget; the figure of trials is the budget */
+#define ABE_LARGE       13  /* an evaluated set has over 256 rows; trials in full */
+
+/* Least lengths of the buffers, in elements. Longer ones will do. */
+#define ABE_SETS_WORDS    8192  /* int64_t: sets under way */
+#define ABE_FILES_WORDS   8192  /* int64_t: aggregate files */
+#define ABE_INDEXES_WORDS 1280  /* uint16_t: indexes */
+#define ABE_RESULT_WORDS  2048  /* int64_t: rows given */
+#define ABE_FIGURES_WORDS 4     /* uint64_t: the answer */
+
+/* Places of the figures. Rows and columns are 0 unless the number is 0; trials are 0 under 1 to 11. */
+#define ABE_NUMBER  0
+#define ABE_ROWS    1
+#define ABE_COLUMNS 2
+#define ABE_TRIALS  3
+
+/* The result: row r, column c of n columns stands at words 2 * (r * n + c) and the next, numerator then denominator, in
+ * lowest terms with the denominator positive (1 for a whole). Each row stands once; they ascend by exact value, first
+ * column first. */
+#define ABE_NUMERATOR(r, c, n)   (2 * ((size_t)(r) * (size_t)(n) + (size_t)(c)))
+#define ABE_DENOMINATOR(r, c, n) (ABE_NUMERATOR(r, c, n) + 1)
+
+/* Answers a question over the tables in `words` by a plan, with at most `budget` trials; returns the number, which is also
+ * figures[ABE_NUMBER].
+ *
+ * Kept and zeroed: after every number but 1 the first ABE_SETS_WORDS, ABE_FILES_WORDS and ABE_INDEXES_WORDS elements of
+ * the work buffers are zero, and after 1 they are as they were; what lies beyond these lengths is always kept. The result
+ * is kept whole by every refusal, and past its rows when accepted. The first four figures are written after every number,
+ * the others kept; where there are fewer than four the number is 1 and no buffer at all is changed. */
+uint8_t abe_run(const int32_t *words, size_t words_len,
+                const uint8_t *question, size_t question_len,
+                const uint8_t *plan, size_t plan_len,
+                uint64_t budget,
+                int64_t *sets, size_t sets_len,
+                int64_t *files, size_t files_len,
+                uint16_t *indexes, size_t indexes_len,
+                int64_t *result, size_t result_len,
+                uint64_t *figures, size_t figures_len);
+
+/* The index of a column: the table's row numbers by value, then row number, as many as it has rows. Returns 0, or 3, 4, 7
+ * (absent table or column) or 2 (out too short), in this order. Words past the rows are kept, and all of them by a
+ * refusal. */
+uint8_t abe_index(const int32_t *words, size_t words_len,
+                  uint32_t table, uint32_t column,
+                  uint16_t *out, size_t out_len);
+
+#ifdef __cplusplus
+}
+#endif
+
+#endif
