@@ -16,6 +16,8 @@ pub mod ReachLaws
 pub mod BlockSteps
 pub mod AnswerSteps
 pub mod MatchReturns
+pub mod LeafSteps
+pub mod GatherSteps
 pub mod SettleLaws
 pub mod RefusalSteps
 pub mod RunSteps

@@ -12,12 +12,12 @@ use Rattle.syntax.specs.declared.Question.{Question}
 use borrow.Author.Tests.{eqb-true, eqb-false}
 
 module _ {A : Type 0} where
-  get-put : (l : List A) (i : ℕ) (x d : A) → i < length l → getD (set l i x) i d ≡ x
+  pub get-put : (l : List A) (i : ℕ) (x d : A) → i < length l → getD (set l i x) i d ≡ x
   get-put [] i x d h = absurd (omega arith)
   get-put (y ∷ l) zero x d h = refl
   get-put (y ∷ l) (suc i) x d h = get-put l i x d (omega arith)
 
-  get-other : (l : List A) (i j : ℕ) (x d : A) → (j ≡ i → ⊥) → getD (set l i x) j d ≡ getD l j d
+  pub get-other : (l : List A) (i j : ℕ) (x d : A) → (j ≡ i → ⊥) → getD (set l i x) j d ≡ getD l j d
   get-other [] i j x d n = refl
   get-other (y ∷ l) zero zero x d n = absurd (n refl)
   get-other (y ∷ l) zero (suc j) x d n = refl

@@ -1,3 +1,6 @@
--- Laws of a set that is gathered number by number, and of an array of descriptions that is being filled.
+-- Laws of a set that is gathered number by number, of an array of descriptions that is being filled, and of descriptions
+-- that lie in words.
 pub mod ColumnLaws
 pub mod FillLaws
+pub mod StoredLaws
+pub mod StoringLaws

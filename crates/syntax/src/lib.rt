@@ -111,8 +111,8 @@ fn number_at(s: &[u8], at: usize) -> u64
     n * 256 + wide_at(s, at)
 }
 
-// The element at a place, decoded: an empty one past the end.
-pub fn item_at(s: &[u8], at: usize) -> Item
+// The element at a place, decoded, where fewer than nine bytes may stand: those past the end are 0.
+fn item_near_end(s: &[u8], at: usize) -> Item
     ensures { λ r. ⌜ r ≡ itemAt (now (s .entry)) at ⌝ }
 {
     if at < s.len() {
@@ -130,6 +130,22 @@ pub fn item_at(s: &[u8], at: usize) -> Item
         function: 0,
         block: 0,
         column: 0,
+    }
+}
+
+// The element at a place, decoded: an empty one past the end.
+pub fn item_at(s: &[u8], at: usize) -> Item
+    ensures { λ r. ⌜ r ≡ itemAt (now (s .entry)) at ⌝ }
+{
+    if left_from(s, at) < 9 {
+        return item_near_end(s, at);
+    }
+    Item {
+        kind: s[at],
+        argument: word(s, at + 1),
+        function: s[at + 1],
+        block: s[at + 2],
+        column: s[at + 3],
     }
 }
 

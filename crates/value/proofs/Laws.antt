@@ -5,16 +5,17 @@ use Prim.Native.Nat.{compare·suc-suc, compare·zero-suc, compare·suc-zero}
 use native.Mathlib.Nat.{lt-of-le-of-lt}
 use native.Mathlib.Omega.{arith}
 use mathlib.Core.Bool.{Bool, true, false, _&&_, cond}
-use mathlib.Core.Path.{_≡_, refl, sym, _∙_, ap₂, subst}
+use mathlib.Core.Path.{_≡_, refl, sym, _∙_, ap, ap₂, subst}
+use mir.Facts.{toZ-ofZ}
 use mir.Syntax.{w64}
 use mir.Val.{SFits, toZ, ofZ}
-use borrow.Author.Tests.{ltb-true, ltb-false, le-leb}
-use lib.Dec.{T, leb, leb→le, lit<}
+use borrow.Author.Tests.{ltb-true, ltb-false, le-leb, eqb-true}
+use lib.Dec.{T, eqb, leb, leb→le, lit<}
 use lib.IntN.{ℤ, pos, negsuc, natAbs, _*ℤ_}
 use lib.Signed.{ltZ, leZ}
 use Rattle.model.specs.Value as model
 use Rattle.model.specs.Value.{compareZ, order, testOf}
-use Rattle.model.proofs.ValueLaws.{compare-self}
+use Rattle.model.proofs.ValueLaws.{compare-self, scaleZ}
 use Rattle.value.specs.declared.Value.{Value}
 use Rattle.value.specs.declared.Compared.{Compared}
 use Rattle.value.specs.declared.Compared.the-variants.{Less, Equal, Greater, Outside}
@@ -162,6 +163,51 @@ module _ (x y : Value) where
       go true Ordering·eq = refl
       go true Ordering·gt = refl
       go false c = refl
+
+-- ---- whole values: the numerators tell
+inside-whole : (n : ℤ) → insideOf (inWords (model.whole n)) ≡ leb (natAbs n) 1000000000000000
+unfolding insideOf
+inside-whole n = go (leb (natAbs n) 1000000000000000)
+  where
+    go : (t : Bool) → t && true ≡ t
+    go true = refl
+    go false = refl
+
+module _ (n m : ℤ) (s t : Bool) (s-is : s ≡ leb (natAbs n) 1000000000000000)
+    (t-is : t ≡ leb (natAbs m) 1000000000000000) where
+  within : insideOf (inWords (model.whole n)) && insideOf (inWords (model.whole m)) ≡ s && t
+  within = ap₂ _&&_ (inside-whole n ∙ sym s-is) (inside-whole m ∙ sym t-is)
+
+  pub wholes-inside : s && t ≡ true → tell (compareZ n m) ≡ orderOf (inWords (model.whole n)) (inWords (model.whole m))
+  unfolding orderOf order
+  wholes-inside e = rw (within ∙ e) (ap tell (sym (scaleZ n m 1 (omega arith))))
+
+  pub wholes-outside : s && t ≡ false → Outside ≡ orderOf (inWords (model.whole n)) (inWords (model.whole m))
+  unfolding orderOf
+  wholes-outside e = rw (within ∙ e) refl
+
+-- a denominator whose bits are 1
+den-one : (d : ℤ) → SFits w64 d → eqb (ofZ w64 d) 1 ≡ true → pos 1 ≡ d
+den-one d f e = sym (ap (toZ w64) (eqb-true (ofZ w64 d) 1 e)) ∙ toZ-ofZ {w = w64} {z = d} f
+
+pub wholes-are : (x y : Value) → SFits w64 (x .num) → SFits w64 (x .den) → SFits w64 (y .num) → SFits w64 (y .den)
+    → eqb (ofZ w64 (x .den)) 1 && eqb (ofZ w64 (y .den)) 1 ≡ true
+    → orderOf (inWords (model.whole (toZ w64 (ofZ w64 (x .num))))) (inWords (model.whole (toZ w64 (ofZ w64 (y .num)))))
+    ≡ orderOf x y
+wholes-are x y f g h k e =
+    let d = true-both (eqb (ofZ w64 (x .den)) 1) (eqb (ofZ w64 (y .den)) 1) e in
+    ap₂ orderOf (same x f g (d .0)) (same y h k (d .1))
+  where
+    true-both : (a b : Bool) → a && b ≡ true → (a ≡ true) × (b ≡ true)
+    true-both true b e = (refl, e)
+    true-both false b e = absurd (subst T (sym e) tt)
+
+    same : (v : Value) → SFits w64 (v .num) → SFits w64 (v .den) → eqb (ofZ w64 (v .den)) 1 ≡ true
+        → inWords (model.whole (toZ w64 (ofZ w64 (v .num)))) ≡ v
+    same v f g e =
+        let n = toZ-ofZ {w = w64} {z = v .num} f in
+        let d = den-one (v .den) g e in
+        λ j. record { num = n j; den = d j }
 
 -- ---- values of the model within the bounds
 pub fair-inside : (v : model.Value) → Fair v → insideOf (inWords v) ≡ true

@@ -9,8 +9,8 @@ ghost use Prim.Native.Nat.{_*_, _<_, _≤_, Ordering·lt, Ordering·eq, Ordering
 ghost use lib.Dec.{leb};
 ghost use lib.IntN.{pos, natAbs, _*ℤ_};
 ghost use lib.Signed.{leZ};
-ghost use Rattle.model.specs.Value.{gcd, testOf, compareZ};
-ghost use Rattle.value.specs.Exact.{insideOf, orderOf, tell, holdsOf, says, averageOf, lowestOf};
+ghost use Rattle.model.specs.Value.{whole, gcd, testOf, compareZ};
+ghost use Rattle.value.specs.Exact.{inWords, insideOf, orderOf, tell, holdsOf, says, averageOf, lowestOf};
 
 // A value: num / den.
 pub struct Value {
@@ -93,14 +93,10 @@ pub fn inside(x: Value) -> bool
     at_most_256(x.den)
 }
 
-// The order of n / d and m / e, by cross products.
-fn cross(n: i64, d: i64, m: i64, e: i64) -> Compared
-    requires { ⌜ (natAbs n ≤ 1000000000000000) × (natAbs e ≤ 256) ⌝ }
-    requires { ⌜ (natAbs m ≤ 1000000000000000) × (natAbs d ≤ 256) ⌝ }
-    ensures { λ r. ⌜ r ≡ tell (compareZ (n *ℤ e) (m *ℤ d)) ⌝ }
+// The order of two integers.
+fn compare(a: i64, b: i64) -> Compared
+    ensures { λ r. ⌜ r ≡ tell (compareZ a b) ⌝ }
 {
-    let a = n * e;
-    let b = m * d;
     if a < b {
         return Compared::Less;
     }
@@ -110,8 +106,19 @@ fn cross(n: i64, d: i64, m: i64, e: i64) -> Compared
     Compared::Equal
 }
 
-// The exact order of two values, where both are inside the bounds.
-pub fn order(x: Value, y: Value) -> Compared
+// The order of n / d and m / e, by cross products.
+fn cross(n: i64, d: i64, m: i64, e: i64) -> Compared
+    requires { ⌜ (natAbs n ≤ 1000000000000000) × (natAbs e ≤ 256) ⌝ }
+    requires { ⌜ (natAbs m ≤ 1000000000000000) × (natAbs d ≤ 256) ⌝ }
+    ensures { λ r. ⌜ r ≡ tell (compareZ (n *ℤ e) (m *ℤ d)) ⌝ }
+{
+    let a = n * e;
+    let b = m * d;
+    compare(a, b)
+}
+
+// The exact order of two values, by cross products.
+fn order_ratios(x: Value, y: Value) -> Compared
     ensures { λ r. ⌜ r ≡ orderOf x y ⌝ }
 {
     if !inside(x) {
@@ -121,6 +128,26 @@ pub fn order(x: Value, y: Value) -> Compared
         return Compared::Outside;
     }
     cross(x.num, x.den, y.num, y.den)
+}
+
+// The exact order of two whole values: no product is needed.
+fn order_wholes(n: i64, m: i64) -> Compared
+    ensures { λ r. ⌜ r ≡ orderOf (inWords (whole n)) (inWords (whole m)) ⌝ }
+{
+    if small(n) & small(m) {
+        return compare(n, m);
+    }
+    Compared::Outside
+}
+
+// The exact order of two values, where both are inside the bounds.
+pub fn order(x: Value, y: Value) -> Compared
+    ensures { λ r. ⌜ r ≡ orderOf x y ⌝ }
+{
+    if (x.den == 1) & (y.den == 1) {
+        return order_wholes(x.num, y.num);
+    }
+    order_ratios(x, y)
 }
 
 // The operators that a lesser value meets.
