@@ -51,7 +51,6 @@ same-words a b i e = λ t.
           };
       level = e (i + 8) (omega arith) t % 256;
       named = e (i + 9) (omega arith) t % 65536;
-      ratios = e (i + 10) (omega arith) t % 65536;
       live =
           record {
             count = e (i + 11) (omega arith) t;
@@ -89,7 +88,6 @@ module _ (code : List ℕ) (i : ℕ) (o : Outline) (small : Narrow o) (long : le
             };
         level = (ap (λ x. x % 256) (e 8 (omega arith)) ∙ mod-eq-of-lt (small .level-small)) t;
         named = (ap (λ x. x % 65536) (e 9 (omega arith)) ∙ mod-eq-of-lt (small .named-small)) t;
-        ratios = (ap (λ x. x % 65536) (e 10 (omega arith)) ∙ mod-eq-of-lt (small .ratios-small)) t;
         live =
             record {
               count = e 11 (omega arith) t;

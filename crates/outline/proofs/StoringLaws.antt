@@ -94,13 +94,13 @@ module _ (i : ℕ) (a b₀ b₁ b₂ b₃ : List ℕ) where
       ∙ ap (λ n. set a n x₀) h)))))))
 
 pub put-all : (i : ℕ) (a b c d e f : List ℕ) (o : Outline) → b ≡ putFrom a i 0 (placesOf (o .places))
-    → c ≡ set b (i + 8) (o .level) → d ≡ set c (i + 9) (o .named) → e ≡ set d (i + 10) (o .ratios)
+    → c ≡ set b (i + 8) (o .level) → d ≡ set c (i + 9) (o .named) → e ≡ set d (i + 10) 0
     → f ≡ putFrom e i 11 (liveOf (o .live)) → f ≡ putFrom a i 0 (wordsOf o)
 unfolding putFrom
-put-all i a b c d e f o p l n r s =
+put-all i a b c d e f o p l n z s =
     s
-    ∙ ap (λ x. putFrom x i 11 (liveOf (o .live))) (r
-    ∙ ap (λ x. set x (i + 10) (o .ratios)) (n
+    ∙ ap (λ x. putFrom x i 11 (liveOf (o .live))) (z
+    ∙ ap (λ x. set x (i + 10) 0) (n
     ∙ ap (λ x. set x (i + 9) (o .named)) (l
     ∙ ap (λ x. set x (i + 8) (o .level)) p)))
 

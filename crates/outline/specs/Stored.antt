@@ -5,7 +5,7 @@
 --   blocksIn code        the descriptions of the five blocks
 --   placesOf b           the first eight words of a description: the parent, the places of the records
 --   liveOf l             the words from the eleventh on: how many relation rows are not dropped, and their places
---   wordsOf o            the words of a description; the last of the sixteen is not used
+--   wordsOf o            the words of a description; of the sixteen those at 10 and at 15 are not used, that at 10 is 0
 --   putFrom code i j xs  the words with xs in place of those from i + j on
 --   Narrow o             the numbers of eight and of sixteen bits are so small
 --   StoredOne i o a b    where the words were a they are b: the description lies in those from place i on
@@ -28,7 +28,6 @@ noOutline =
       places = noBlock;
       level = 0;
       named = 0;
-      ratios = 0;
       live = record { count = 0; places = 0 ∷ 0 ∷ 0 ∷ [] };
     }
 
@@ -48,7 +47,6 @@ outlineFrom code i =
           };
       level = getD code (i + 8) 0 % 256;
       named = getD code (i + 9) 0 % 65536;
-      ratios = getD code (i + 10) 0 % 65536;
       live =
           record {
             count = getD code (i + 11) 0;
@@ -79,7 +77,7 @@ abbrev pub liveOf : Live → List ℕ
 liveOf l = l .count ∷ getD (l .places) 0 0 ∷ getD (l .places) 1 0 ∷ getD (l .places) 2 0 ∷ []
 
 abbrev pub wordsOf : Outline → List ℕ
-wordsOf o = placesOf (o .places) ++ (o .level ∷ o .named ∷ o .ratios ∷ liveOf (o .live))
+wordsOf o = placesOf (o .places) ++ (o .level ∷ o .named ∷ 0 ∷ liveOf (o .live))
 
 unfoldable pub putFrom : List ℕ → ℕ → ℕ → List ℕ → List ℕ
 putFrom code i j [] = code
@@ -89,7 +87,6 @@ pub record Narrow (o : Outline) : Type 0 where
   pub parent-small : o .places .parent < 256
   pub level-small : o .level < 256
   pub named-small : o .named < 65536
-  pub ratios-small : o .ratios < 65536
 
 pub record StoredOne (i : ℕ) (o : Outline) (a b : List ℕ) : Type 0 where
   pub put : b ≡ putFrom a i 0 (wordsOf o)

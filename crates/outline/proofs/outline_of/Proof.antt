@@ -19,21 +19,17 @@ level-requires c κs = search needs
 named-requires : tie.Need-named-requires
 named-requires c κs = search needs
 
-ratios-of-requires : tie.Need-ratios-of-requires
-ratios-of-requires c κs = search needs
-
 live-of-requires : tie.Need-live-of-requires
 live-of-requires c κs = search needs
 
 returns : tie.Need-returns
 returns c =
-    let s = c .before .before .before .before .before .before .args .s .now in
-    let there = c .before .before .before .before .block-of .ensures s in
+    let s = c .before .before .before .before .before .args .s .now in
+    let there = c .before .before .before .block-of .ensures s in
     record {
       places-are = there;
-      level-is = c .before .before .before .level .ensures s;
-      named-are = c .before .before .named .ensures ∙ ap (λ b. maskOf (λ k. namesIn k b)) there;
-      ratios-are = c .before .ratios-of .ensures;
+      level-is = c .before .before .level .ensures s;
+      named-are = c .before .named .ensures ∙ ap (λ b. maskOf (λ k. namesIn k b)) there;
       live-are = c .live-of .ensures .0 ∙ ap (λ b. take most (live b)) there;
       few = c .live-of .ensures .1 .0;
       three = c .live-of .ensures .1 .1;
@@ -46,6 +42,5 @@ outline-of-spec =
     block-of-requires
     level-requires
     named-requires
-    ratios-of-requires
     live-of-requires
     returns)
