@@ -12,6 +12,7 @@ use Rattle.syntax.specs.Places.{itemAt, byteAt, wordAt, takes, fiveZeros
 use Rattle.syntax.specs.Places.{elementsOk, headOf, entriesOf, headOk, recordOk, recordEnd, run, runs, noBlock}
 use Rattle.syntax.specs.Places.{noQuestion, blockWith, block, blockWithin, put, walk, reading, wellFormed}
 use Rattle.syntax.specs.declared.Block.{Block}
+use Rattle.syntax.specs.declared.Head.{Head}
 use Rattle.syntax.specs.declared.Item.{Item}
 use Rattle.syntax.specs.declared.Question.{Question}
 use Rattle.syntax.specs.declared.Run.{Run}
@@ -45,6 +46,10 @@ pub item-is : {k k′ a a′ f f′ b b′ c c′ : ℕ} → k ≡ k′ → a �
     → _≡_ {A = Item} (record { kind = k; argument = a; function = f; block = b; column = c })
     (record { kind = k′; argument = a′; function = f′; block = b′; column = c′ })
 item-is e g h i j = λ x. record { kind = e x; argument = g x; function = h x; block = i x; column = j x }
+
+pub head-is : {a a′ k k′ : ℕ} → a ≡ a′ → k ≡ k′
+    → _≡_ {A = Head} (record { argument = a; kind = k }) (record { argument = a′; kind = k′ })
+head-is e f = λ x. record { argument = e x; kind = f x }
 
 pub element-is : (r : ℕ) (bs : List ℕ) (i a : ℕ) (t z g : Bool) → t ≡ takes r (byteAt bs i) → a ≡ wordAt bs (i + 1)
     → z ≡ fiveZeros bs (i + 4) → g ≡ argumentOk (byteAt bs i) a (byteAt bs (i + 1)) (byteAt bs (i + 3)) z

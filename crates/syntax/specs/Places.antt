@@ -2,6 +2,7 @@
 -- `formed-is`, `read-is`, `count-is`, `within-is`); what the descriptions mean is in Described.
 --   byteAt bs i           the byte at place i, 0 past the end; wordAt bs i: the eight bytes from i on, lowest first
 --   itemAt bs i           the element at place i: its kind, its argument as a number and by bytes
+--   headAt bs i           its kind and its argument as a number alone
 --   takes r k             record r takes kind k; records are 0 RW, 1 CD, 2 OL, 3 BK, 4 EN
 --   argumentOk k a f c z  kind k takes the argument
 --   elementOk r bs i      an element of record r stands at i; elementsOk r bs n i: n of them
@@ -19,6 +20,7 @@ use lib.Dec.{eqb, ltb, leb}
 use lib.ListN.{length, getD, set}
 use Rattle.syntax.specs.declared.Run.{Run}
 use Rattle.syntax.specs.declared.Item.{Item}
+use Rattle.syntax.specs.declared.Head.{Head}
 use Rattle.syntax.specs.declared.Block.{Block}
 use Rattle.syntax.specs.declared.Question.{Question}
 
@@ -43,6 +45,10 @@ itemAt bs i =
       block = byteAt bs (i + 2);
       column = byteAt bs (i + 3);
     }
+
+-- the kind and the argument of the element at i
+abbrev pub headAt : List ℕ → ℕ → Head
+headAt bs i = record { argument = itemAt bs i .argument; kind = itemAt bs i .kind }
 
 -- records: 0 RW, 1 CD, 2 OL
 abbrev pub takes : ℕ → ℕ → Bool

@@ -6,7 +6,7 @@ ghost use mathlib.Core.Bool.{true, _&&_};
 ghost use Prim.Native.Nat.{ℕ, _+_, _*_, _-_, _≤_, _<_};
 ghost use lib.ListN.{length, getD};
 ghost use Rattle.model.specs.Records as model;
-ghost use Rattle.syntax.specs.Places.{itemAt, byteAt, left, wordAt, takes, fiveZeros, argumentOk, elementOk};
+ghost use Rattle.syntax.specs.Places.{itemAt, headAt, byteAt, left, wordAt, takes, fiveZeros, argumentOk, elementOk};
 ghost use Rattle.syntax.specs.Places.{elementsOk, isMark, headOf, entriesOf, headOk, recordEnd, recordOk, run};
 ghost use Rattle.syntax.specs.Places.{runs, block, blockWithin, put, walk, noBlock, noQuestion, reading};
 ghost use Rattle.syntax.specs.Places.{wellFormed};
@@ -18,6 +18,12 @@ pub struct Item {
     pub function: u8,
     pub block: u8,
     pub column: u8,
+}
+
+// An element's kind and its argument as a number, no more: what is asked of an element that is no aggregate.
+pub struct Head {
+    pub argument: u64,
+    pub kind: u8,
 }
 
 pub struct Run {
@@ -146,6 +152,24 @@ pub fn item_at(s: &[u8], at: usize) -> Item
         function: s[at + 1],
         block: s[at + 2],
         column: s[at + 3],
+    }
+}
+
+// The kind and the argument of the element at a place, both 0 past the end.
+pub fn head_at(s: &[u8], at: usize) -> Head
+    ensures { λ r. ⌜ r ≡ headAt (now (s .entry)) at ⌝ }
+{
+    if left_from(s, at) < 9 {
+        let e = item_near_end(s, at);
+        return Head {
+            argument: e.argument,
+            kind: e.kind,
+        };
+    }
+    let argument = word(s, at + 1);
+    Head {
+        argument,
+        kind: s[at],
     }
 }
 
