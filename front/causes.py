@@ -5,6 +5,7 @@ notation. PAPER has the paper's words for each number, for where no function fin
 """
 
 import format as fmt
+from naive.checks import ancestors_of
 
 PAPER = {
     1: "work buffer short: 8,192 words for sets, 8,192 for aggregate files, 1,280 for indexes",
@@ -65,15 +66,6 @@ def live_rows(block):
 
 
 # How blocks stand to each other, where every parent is an earlier block.
-
-def ancestors_of(blocks, number):
-    """The proper ancestors, nearest first."""
-    found = []
-    while number != 0:
-        number = blocks[number].parent
-        found.append(number)
-    return found
-
 
 def levels_of(blocks):
     return [1 + len(ancestors_of(blocks, number)) for number in range(len(blocks))]

@@ -57,7 +57,7 @@ pub struct Answer {
 /// The lent buffers of a run: three to work in and the result. They may have any length: shorter than the constants gets
 /// number 1 (2 for the result). After every number but 1 the work buffers are zero in their named lengths; the result keeps
 /// its words on refusal, and those past its rows when accepted.
-#[derive(Clone, Debug)]
+#[derive(Clone, Debug, PartialEq, Eq)]
 pub struct Buffers {
     pub sets: Vec<i64>,
     pub files: Vec<i64>,
@@ -82,11 +82,11 @@ impl Buffers {
         }
     }
 
-    /// Answers a question over the data's tables by a plan, with at most `budget` trials.
-    pub fn run(&mut self, data: &[i32], question: &[u8], plan: &[u8], budget: u64) -> Answer {
-        let mut figures = [0u64; 4];
-        // SAFETY: every pointer and length are those of one live slice, and the mutable ones are of different vectors.
-        let number = unsafe {
+    /// The archive's call with these buffers and any number of words for the figures; gives the number.
+    fn call(&mut self, data: &[i32], question: &[u8], plan: &[u8], budget: u64, figures: &mut [u64]) -> u8 {
+        // SAFETY: every pointer and length are those of one live slice, and the mutable ones are of different vectors and a
+        // slice that is borrowed mutably.
+        unsafe {
             archive::abe_run(
                 data.as_ptr(),
                 data.len(),
@@ -106,7 +106,13 @@ impl Buffers {
                 figures.as_mut_ptr(),
                 figures.len(),
             )
-        };
+        }
+    }
+
+    /// Answers a question over the data's tables by a plan, with at most `budget` trials.
+    pub fn run(&mut self, data: &[i32], question: &[u8], plan: &[u8], budget: u64) -> Answer {
+        let mut figures = [0u64; 4];
+        let number = self.call(data, question, plan, budget, &mut figures);
         debug_assert_eq!(figures[0], number as u64);
         let (rows, columns) = (figures[1] as usize, figures[2] as usize);
         let value = |place: usize| (self.result[2 * place], self.result[2 * place + 1]);
@@ -133,40 +139,22 @@ mod tests {
         let question = b"BK\xffRW\0\x01\x02\0\0\0\0\0\0\0\0OL\x01\x02\0\0\0\0\0\0\0\0EN";
         let (data, plan) = ([1, 1, 2, 5, 3], *b"PL\0\0");
         for length in 0..6 {
-            let mut work = [vec![1i64; SETS_WORDS], vec![2; FILES_WORDS], vec![3; RESULT_WORDS]];
-            let mut indexes = vec![4u16; INDEXES_WORDS];
-            let mut figures = [9u64; 6];
-            let before = (work.clone(), indexes.clone());
-            let [sets, files, result] = &mut work;
-            // SAFETY: as in `run`; the figures' length is at most that of the array.
-            let number = unsafe {
-                archive::abe_run(
-                    data.as_ptr(),
-                    data.len(),
-                    question.as_ptr(),
-                    question.len(),
-                    plan.as_ptr(),
-                    plan.len(),
-                    2,
-                    sets.as_mut_ptr(),
-                    sets.len(),
-                    files.as_mut_ptr(),
-                    files.len(),
-                    indexes.as_mut_ptr(),
-                    indexes.len(),
-                    result.as_mut_ptr(),
-                    result.len(),
-                    figures.as_mut_ptr(),
-                    length,
-                )
+            let mut lent = Buffers {
+                sets: vec![1; SETS_WORDS],
+                files: vec![2; FILES_WORDS],
+                indexes: vec![4; INDEXES_WORDS],
+                result: vec![3; RESULT_WORDS],
             };
+            let before = lent.clone();
+            let mut figures = [9u64; 6];
+            let number = lent.call(&data, question, &plan, 2, &mut figures[..length]);
             if length < 4 {
                 assert_eq!((number, figures), (1, [9; 6]));
-                assert!((work, indexes) == before);
+                assert!(lent == before);
             } else {
                 assert_eq!((number, figures), (0, [0, 2, 1, 2, 9, 9]));
-                assert_eq!(work[2][..5], [3, 1, 5, 1, 3]);
-                assert!(work[..2].iter().flatten().all(|w| *w == 0) && indexes.iter().all(|w| *w == 0));
+                assert_eq!(lent.result[..5], [3, 1, 5, 1, 3]);
+                assert!(lent.sets.iter().chain(&lent.files).all(|w| *w == 0) && lent.indexes.iter().all(|w| *w == 0));
             }
         }
     }
