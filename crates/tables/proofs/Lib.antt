@@ -1,8 +1,11 @@
 pub mod Signs
 pub mod Comparisons
+pub mod Looking
 pub mod PlaceLaws
+pub mod ColumnLaws
 pub mod DataLaws
 pub mod Bisecting
+pub mod Ranging
 pub mod Putting
 pub mod LaidLaws
 pub mod AscendingLaws

@@ -2,7 +2,7 @@
 use Prim.Native.Nat.{ℕ, zero, suc, _<_, _≤_, _^_}
 use native.Mathlib.Omega.{arith}
 use mathlib.Core.Bool.{Bool, true, false}
-use mathlib.Core.Path.{_≡_, refl, sym, ap, subst}
+use mathlib.Core.Path.{_≡_, refl, sym, _∙_, ap, subst}
 use borrow.Author.Needs.{sfits-of}
 use borrow.Author.Tests.{lt-leb, le-leb, ltb-true, ltb-false}
 use lib.Dec.{T, leb, ltb}
@@ -16,6 +16,10 @@ use Rattle.model.specs.Tables.{natOf, between}
 -- a word is read back from its bits
 pub back : (z : ℤ) → mag z < 2 ^ 31 → toZ w32 (ofZ w32 z) ≡ z
 back z f = toZ-ofZ {w = w32} {z = z} (sfits-of f)
+
+-- a number that equals a word has as many bits
+pub fits-as : (z w : ℤ) → mag z < 2 ^ 31 → toZ w32 (ofZ w32 z) ≡ w → SFits w32 w
+fits-as z w f e = subst (λ x. SFits w32 x) (sym (back z f) ∙ e) (sfits-of f)
 
 -- ---- of a word itself
 negative-none : (x : ℤ) → ltZ x (pos 0) ≡ true → 0 ≡ natOf x

@@ -5,6 +5,7 @@
 --   firstCell d t    the place of its first cell
 --   placeOf d t      that place, how far a cell lies behind the one above it, and behind its left neighbour
 --   columnOf p c     column c of a table that lies at p: its first cell, how far the next one lies behind it
+--   fromStart s      the column whose first cell is the first word, and the next one s words behind it
 --   valueIn d k r    the value in row r of column k
 use Prim.Native.Nat.{ℕ, _+_, _*_, min}
 use mathlib.Core.List.{List}
@@ -28,6 +29,9 @@ placeOf d t = record { base = firstCell d t; down = rowStep d t; across = column
 
 unfoldable pub columnOf : Place → ℕ → Column
 columnOf p c = record { first = p .base + c * p .across; step = p .down }
+
+abbrev pub fromStart : ℕ → Column
+fromStart s = record { first = 0; step = s }
 
 unfoldable pub valueIn : List ℤ → Column → ℕ → ℤ
 valueIn d k r = word d (k .first + r * k .step)
