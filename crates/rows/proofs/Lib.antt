@@ -3,7 +3,9 @@
 -- evaluation), Cost (`nine-comparisons`). The rest serve these.
 pub mod WordLaws
 pub mod CompareLoop
+pub mod PlainLaws
 pub mod SearchLoop
+pub mod WalkLoop
 pub mod ShiftLoop
 pub mod CaseLaws
 pub mod Decoding

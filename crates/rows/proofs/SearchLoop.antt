@@ -54,27 +54,48 @@ module _ (at : ℕ → Compared) where
   unfolding bisect
   bisect-step f lo hi h = simp (lt-ltb lo hi h)
 
-  -- the search between lo and hi, with the steps that are left, gives what the whole search gives
-  pub record Between (count lo hi : ℕ) : Type 0 where
+  -- more steps than there are rows change nothing
+  same-steps : (f g lo hi : ℕ) → hi - lo ≤ f → hi - lo ≤ g → bisect at f lo hi ≡ bisect at g lo hi
+  same-steps zero g lo hi h k = bisect-done zero lo hi (omega arith) ∙ sym (bisect-done g lo hi (omega arith))
+  same-steps (suc f) zero lo hi h k =
+      bisect-done (suc f) lo hi (omega arith) ∙ sym (bisect-done zero lo hi (omega arith))
+  same-steps (suc f) (suc g) lo hi h k = go (λ a b p q. same-steps f g a b p q) (ltb lo hi) refl
+    where
+      go : ((a b : ℕ) → b - a ≤ f → b - a ≤ g → bisect at f a b ≡ bisect at g a b) → (t : Bool) → ltb lo hi ≡ t
+          → bisect at (suc f) lo hi ≡ bisect at (suc g) lo hi
+      go again true t =
+          let lt = ltb-true lo hi t in
+          let o = at (middle lo hi) in
+          let n = narrower o lo hi lt in
+          bisect-step f lo hi lt
+          ∙ ap (turnOf o (middle lo hi))
+          (again (lower o (middle lo hi) lo) (upper o (middle lo hi) hi) (omega arith) (omega arith))
+          ∙ sym (bisect-step g lo hi lt)
+      go again false t =
+          let le = ltb-false lo hi t in
+          bisect-done (suc f) lo hi le ∙ sym (bisect-done (suc g) lo hi le)
+
+  -- the search between lo and hi, with the steps that are left, gives what the whole search, up to row end, gives
+  pub record Between (whole : Place) (end lo hi : ℕ) : Type 0 where
     pub steps : ℕ
     pub enough : hi - lo ≤ steps
     pub order : lo ≤ hi
-    pub top : hi ≤ count
-    pub rest : bisect at steps lo hi ≡ bisect at count 0 count
+    pub top : hi ≤ end
+    pub rest : bisect at steps lo hi ≡ whole
 
-  pub between-begin : (count : ℕ) → Between count 0 count
-  between-begin count =
-      record { steps = count; enough = omega arith; order = omega arith; top = omega arith; rest = refl }
+  pub between-begin : (steps lo hi : ℕ) → hi - lo ≤ steps → lo ≤ hi → Between (bisect at steps lo hi) hi lo hi
+  between-begin steps lo hi h k =
+      record { steps = steps; enough = h; order = k; top = omega arith; rest = refl }
 
-  module _ (count lo hi : ℕ) (h : Between count lo hi) where
+  module _ (whole : Place) (end lo hi : ℕ) (h : Between whole end lo hi) where
     module _ (lt : lo < hi) (o : Compared) (e : o ≡ at (middle lo hi)) where
       module _ (f : ℕ) (s : h .steps ≡ suc f) where
-        stepped : bisect at count 0 count ≡ turnOf o (middle lo hi)
+        stepped : whole ≡ turnOf o (middle lo hi)
             (bisect at f (lower o (middle lo hi) lo) (upper o (middle lo hi) hi))
         stepped = sym (h .rest) ∙ ap (λ (k : ℕ). bisect at k lo hi) s ∙ rw e (bisect-step f lo hi lt)
 
         more : isEqual o ≡ false → isOutside o ≡ false
-            → Between count (lower o (middle lo hi) lo) (upper o (middle lo hi) hi)
+            → Between whole end (lower o (middle lo hi) lo) (upper o (middle lo hi) hi)
         more p q = record {
           steps = f;
           enough = omega (arith, narrower o lo hi lt, h .enough);
@@ -87,18 +108,22 @@ module _ (at : ℕ → Compared) where
       some zero e = absurd (omega (arith, h .enough))
       some (suc s) e = let k : suc s - 1 ≡ s = omega arith in rw k e
 
-      pub between-there : isEqual o ≡ true → place.There (middle lo hi) ≡ bisect at count 0 count
+      pub between-there : isEqual o ≡ true → place.There (middle lo hi) ≡ whole
       between-there p = sym (stepped _ (some _ refl) ∙ turn-equal o (middle lo hi) _ p)
 
-      pub between-outside : isOutside o ≡ true → place.Outside ≡ bisect at count 0 count
+      pub between-outside : isOutside o ≡ true → place.Outside ≡ whole
       between-outside p = sym (stepped _ (some _ refl) ∙ turn-outside o (middle lo hi) _ p)
 
       pub between-more : isEqual o ≡ false → isOutside o ≡ false
-          → Between count (lower o (middle lo hi) lo) (upper o (middle lo hi) hi)
+          → Between whole end (lower o (middle lo hi) lo) (upper o (middle lo hi) hi)
       between-more p q = more _ (some _ refl) p q
 
-    pub between-end : hi ≤ lo → place.New lo ≡ bisect at count 0 count
+    pub between-end : hi ≤ lo → place.New lo ≡ whole
     between-end le = sym (sym (h .rest) ∙ bisect-done (h .steps) lo hi le)
+
+    -- what is left may be searched by itself
+    pub between-rest : bisect at (hi - lo) lo hi ≡ whole
+    between-rest = same-steps (hi - lo) (h .steps) lo hi (omega arith) (h .enough) ∙ h .rest
 
 -- a place found for a new row is no further than the end
 pub bisect-top : (at : ℕ → Compared) (f lo hi k : ℕ) → lo ≤ hi → bisect at f lo hi ≡ place.New k → k ≤ hi

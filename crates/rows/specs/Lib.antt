@@ -1,5 +1,6 @@
 pub mod Words
 pub mod Encoding
 pub mod Insertion
+pub mod Plain
 pub mod Columns
 pub mod Folds

@@ -7,6 +7,7 @@
 // order is answered Outside. A refused or outside call leaves the words as they were.
 mod column;
 mod moves;
+mod plain;
 mod search;
 mod words;
 
@@ -34,6 +35,13 @@ pub enum Added {
     Outside,
     Large,
     Refused,
+}
+
+// Where a bisection stands: the row lo was found, or the rows from lo to hi are left.
+pub(crate) struct Walk {
+    pub(crate) lo: usize,
+    pub(crate) hi: usize,
+    pub(crate) there: bool,
 }
 
 // A sum so far.
@@ -156,7 +164,7 @@ pub fn copy(from: &[i64], to: &mut [i64], m: usize) -> bool
     if words::room(to.len()) < m {
         return false;
     }
-    moves::put_row(to, 0, from, m);
+    moves::put_values(to, 0, from, m);
     true
 }
 

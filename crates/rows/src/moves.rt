@@ -22,14 +22,30 @@ pub(crate) fn shift(words: &mut [i64], p: usize, e: usize, m: usize)
     }
 }
 
-// The first m values of a row put at place p.
-pub(crate) fn put_row(words: &mut [i64], p: usize, row: &[i64], m: usize)
-    requires { ⌜ (p + m ≤ roomOf (length (now words))) × (m ≤ roomOf (length (now row))) ⌝ }
-    ensures { λ _. ⌜ now (words .exit) ≡ paste (now (words .entry)) (wordsOf p) (now (row .entry)) (wordsOf m) ⌝ }
+// A row of n columns put at place p. There are at most 4 columns: the loop says so, and the compiler writes it out.
+pub(crate) fn put_row(words: &mut [i64], p: usize, row: &[i64], n: usize)
+    requires { ⌜ (n ≤ 4) × (p + n ≤ roomOf (length (now words))) × (n ≤ roomOf (length (now row))) ⌝ }
+    ensures { λ _. ⌜ now (words .exit) ≡ paste (now (words .entry)) (wordsOf p) (now (row .entry)) (wordsOf n) ⌝ }
+{
+    let mut c: usize = 0;
+    while c < 4 {
+        if c >= n {
+            return;
+        }
+        let v = words::get(row, c);
+        words::put(words, p + c, v);
+        c += 1;
+    }
+}
+
+// The first m values of another buffer put at place p.
+pub(crate) fn put_values(words: &mut [i64], p: usize, from: &[i64], m: usize)
+    requires { ⌜ (p + m ≤ roomOf (length (now words))) × (m ≤ roomOf (length (now from))) ⌝ }
+    ensures { λ _. ⌜ now (words .exit) ≡ paste (now (words .entry)) (wordsOf p) (now (from .entry)) (wordsOf m) ⌝ }
 {
     let mut j: usize = 0;
     while j < m {
-        let v = words::get(row, j);
+        let v = words::get(from, j);
         words::put(words, p + j, v);
         j += 1;
     }

@@ -1,12 +1,17 @@
-// The place of a row among the rows of a set, by bisection: at most 9 comparisons of rows for 256 rows
-// (proofs/Cost.antt: `nine-comparisons`).
+// The place of a row among the rows of a set, by bisection: at most 9 rows are compared for 256 rows
+// (proofs/Cost.antt: `nine-comparisons`). Rows are compared by plain integers as long as these tell; from the first row
+// where they do not, that row again and all others are compared by exact value. The answer is the same without the
+// plain part.
 use crate::Place;
+use crate::Walk;
+use crate::plain;
 use crate::words;
 use value::Compared;
 ghost use mathlib.Core.Path.{_≡_};
-ghost use Prim.Native.Nat.{_+_, _*_, _<_, _≤_};
+ghost use Prim.Native.Nat.{_+_, _*_, _-_, _<_, _≤_};
 ghost use lib.ListN.{length};
 ghost use Rattle.rows.specs.Words.{roomOf};
+ghost use Rattle.rows.specs.Plain.{Walked};
 ghost use Rattle.rows.specs.Insertion.{isEqual, isOutside, compareFrom, lower, upper, bisect, atPlace, fitsIn};
 
 // Both are the same value.
@@ -74,14 +79,14 @@ pub(crate) fn narrow_high(o: Compared, mid: usize, hi: usize) -> usize
     }
 }
 
-// The bisection between the first and the last of count rows.
-pub(crate) fn search(row: &[i64], words: &[i64], n: usize, count: usize) -> Place
-    requires { ⌜ (n ≤ 4) × (count ≤ 256) ⌝ }
-    requires { ⌜ (n ≤ roomOf (length (now row))) × (count * n ≤ roomOf (length (now words))) ⌝ }
-    ensures { λ r. ⌜ r ≡ bisect (atPlace n (now (row .entry)) (now (words .entry))) count 0 count ⌝ }
+// The bisection between rows from and to, by exact value.
+pub(crate) fn finish(row: &[i64], words: &[i64], n: usize, from: usize, to: usize) -> Place
+    requires { ⌜ (n ≤ 4) × (from ≤ to) × (to ≤ 256) ⌝ }
+    requires { ⌜ (n ≤ roomOf (length (now row))) × (to * n ≤ roomOf (length (now words))) ⌝ }
+    ensures { λ r. ⌜ r ≡ bisect (atPlace n (now (row .entry)) (now (words .entry))) (to - from) from to ⌝ }
 {
-    let mut lo: usize = 0;
-    let mut hi: usize = count;
+    let mut lo: usize = from;
+    let mut hi: usize = to;
     while lo < hi {
         let mid = lo + (hi - lo) / 2;
         let o = compare_row(row, words, mid * n, n);
@@ -95,6 +100,55 @@ pub(crate) fn search(row: &[i64], words: &[i64], n: usize, count: usize) -> Plac
         lo = narrow_low(o, mid, lo);
     }
     Place::New(lo)
+}
+
+// The bisection between the first and the last of count rows as far as plain integers tell.
+pub(crate) fn walk(row: &[i64], words: &[i64], n: usize, count: usize) -> Walk
+    requires { ⌜ (n ≤ 4) × (count ≤ 256) ⌝ }
+    requires { ⌜ (n ≤ roomOf (length (now row))) × (count * n ≤ roomOf (length (now words))) ⌝ }
+    ensures { λ r. ⌜ Walked (atPlace n (now (row .entry)) (now (words .entry))) count r ⌝ }
+{
+    let m = plain::leading(row, n);
+    let mut lo: usize = 0;
+    let mut hi: usize = count;
+    while lo < hi {
+        let mid = lo + (hi - lo) / 2;
+        let o = plain::compare(row, words, mid * n, n, m);
+        if is_equal(o) {
+            return Walk {
+                lo: mid,
+                hi: hi,
+                there: true,
+            };
+        }
+        if is_outside(o) {
+            return Walk {
+                lo: lo,
+                hi: hi,
+                there: false,
+            };
+        }
+        hi = narrow_high(o, mid, hi);
+        lo = narrow_low(o, mid, lo);
+    }
+    Walk {
+        lo: lo,
+        hi: hi,
+        there: false,
+    }
+}
+
+// The bisection between the first and the last of count rows.
+pub(crate) fn search(row: &[i64], words: &[i64], n: usize, count: usize) -> Place
+    requires { ⌜ (n ≤ 4) × (count ≤ 256) ⌝ }
+    requires { ⌜ (n ≤ roomOf (length (now row))) × (count * n ≤ roomOf (length (now words))) ⌝ }
+    ensures { λ r. ⌜ r ≡ bisect (atPlace n (now (row .entry)) (now (words .entry))) count 0 count ⌝ }
+{
+    let w = walk(row, words, n, count);
+    if w.there {
+        return Place::There(w.lo);
+    }
+    finish(row, words, n, w.lo, w.hi)
 }
 
 // 1 to 4 columns, at most 256 rows, and room for them and for a candidate row.

@@ -30,8 +30,8 @@ returns-2 c =
     let e = both-second _ _ (le-leb (a .m) from (omega arith)) (lt-leb (a .m) to (omega arith)) in
     (sym e, sym (not-copied (a .m) (a .from .now) (a .to .now) e))
 
-put-row-requires : tie.Need-put-row-requires
-put-row-requires c κs = search needs
+put-values-requires : tie.Need-put-values-requires
+put-values-requires c κs = search needs
 
 same-length : tie.Need-same-length
 same-length c = search needs
@@ -43,7 +43,7 @@ returns-3 c =
     let to = roomOf (length (a .to .now)) in
     let e = both-true _ _ (le-leb (a .m) from (omega arith)) (le-leb (a .m) to (omega arith)) in
     let over = overwritten (a .from .now) (a .to .now) (wordsOf (a .m)) (omega arith) in
-    (sym e, c .before .put-row .ensures ∙ over ∙ sym (copied (a .m) (a .from .now) (a .to .now) e))
+    (sym e, c .before .put-values .ensures ∙ over ∙ sym (copied (a .m) (a .from .now) (a .to .now) e))
 
 pub copy-spec : {M : Type 1} → statement M
 copy-spec =
@@ -53,6 +53,6 @@ copy-spec =
     returns
     room-requires-2
     returns-2
-    put-row-requires
+    put-values-requires
     same-length
     returns-3)

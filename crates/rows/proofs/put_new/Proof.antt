@@ -80,7 +80,8 @@ put-row-requires c κs =
     let a = c .before .before .before .before .before .before .before .args in
     let m = mul-le-mul-right (a .n) (c .before .before .before .before .before .before .before .pre .0) in
     let e : length (c .before .before .shift .last .0) ≡ length (a .words .now) = c .before .before .shift .kept .0 in
-    (omega arith, c .before .before .before .before .before .before .before .pre .3)
+    let p = c .before .before .before .before .before .before .before .pre in
+    (p .1, omega arith, p .3)
 
 same-length : tie.Need-same-length
 same-length c = search needs

@@ -1,136 +1,28 @@
--- `search::search` meets its contract: `Between` holds before each turn; hi - lo falls. Assumes nothing.
-use Prim.Native.Nat.{_-_, _<_}
+-- `search::search` meets its contract: the row was found by plain integers, or what is left is searched by exact value.
+-- Assumes nothing.
+use native.Mathlib.Nat.{mul-le-mul-right}
 use native.Mathlib.Omega.{arith}
-use mathlib.Core.Path.{sym, _∙_}
-use lib.ListN.{length}
-use Rattle.rows.specs.Insertion.{atPlace, middle}
-use Rattle.rows.specs.Words.{roomOf}
-use Rattle.rows.proofs.CaseLaws.{place-fits, product-few}
-use Rattle.rows.proofs.SearchLoop.{Between, between-begin, between-there, between-outside, between-more}
-use Rattle.rows.proofs.SearchLoop.{between-end, narrower, middle-below}
+use mathlib.Core.Path.{_∙_}
+use borrow.Author.Needs.{needs}
 use Rattle.rows.proofs.search.search.Statement.{statement}
 use Rattle.rows.proofs.search.search.Tie as tie
 
-abbrev Inv-loop : tie.InvT-loop
-Inv-loop row words n count lo₀ hi₀ lo hi = Between (atPlace n row words) count lo hi
+walk-requires : tie.Need-walk-requires
+walk-requires c κs = search needs
 
-abbrev μ-loop : tie.MeasureT-loop
-μ-loop row words n count lo₀ hi₀ lo hi = hi - lo
+returns : tie.Need-returns
+returns c = c .before .walk .ensures .found (c .if1 .taken)
 
-loop-holds : tie.Need-loop-holds Inv-loop μ-loop
-loop-holds c =
-    let a = c .args in
-    between-begin (atPlace (a .n) (a .row .now) (a .words .now)) (a .count)
-
-sub-mid : tie.Need-sub-mid Inv-loop μ-loop
-sub-mid c = omega arith
-
-add-mid : tie.Need-add-mid Inv-loop μ-loop
-add-mid c = omega arith
-
-mul-compare-row : tie.Need-mul-compare-row Inv-loop μ-loop
-mul-compare-row c =
+finish-requires : tie.Need-finish-requires
+finish-requires c κs =
     let a = c .before .before .args in
-    let l = c .before .loop in
-    let h : middle (l .lo) (l .hi) < a .count = middle-below (l .lo) (l .hi) (a .count) (c .loop-test .taken)
-    (l .inv .top) in
-    omega (arith, product-few (middle (l .lo) (l .hi)) (a .n) 256 (omega arith) (c .before .before .pre .0 .0))
+    let w = c .before .walk in
+    let p = c .before .before .pre in
+    let m = mul-le-mul-right (a .n) (w .ensures .top) in
+    ((p .0 .0, w .ensures .order, omega (arith, w .ensures .top, p .0 .1)), (p .1 .0, omega (arith, p .1 .1)))
 
-compare-row-requires : tie.Need-compare-row-requires Inv-loop μ-loop
-compare-row-requires c κs =
-    let a = c .before .before .args in
-    let l = c .before .loop in
-    let h : middle (l .lo) (l .hi) < a .count = middle-below (l .lo) (l .hi) (a .count) (c .loop-test .taken)
-    (l .inv .top) in (
-      c .before .before .pre .1 .0,
-      place-fits (middle (l .lo) (l .hi)) (a .count) (a .n) (roomOf (length (a .words .now))) h
-          (c .before .before .pre .1 .1),
-    )
-
-is-equal-requires : tie.Need-is-equal-requires Inv-loop μ-loop
-is-equal-requires c κs = tt
-
-returns : tie.Need-returns Inv-loop μ-loop
-unfolding atPlace
-returns c =
-    let a = c .before .before .before .before .before .args in
-    let l = c .before .before .before .before .loop in
-    let at = atPlace (a .n) (a .row .now) (a .words .now) in
-    between-there at (a .count) (l .lo) (l .hi) (l .inv) (c .before .before .before .loop-test .taken)
-    (c .before .before .compare-row .result) (c .before .before .compare-row .ensures)
-    (sym (c .before .is-equal .ensures) ∙ c .if1 .taken)
-
-is-outside-requires : tie.Need-is-outside-requires Inv-loop μ-loop
-is-outside-requires c κs = tt
-
-returns-2 : tie.Need-returns-2 Inv-loop μ-loop
-unfolding atPlace
-returns-2 c =
-    let a = c .before .before .before .before .before .before .before .args in
-    let l = c .before .before .before .before .before .before .loop in
-    let at = atPlace (a .n) (a .row .now) (a .words .now) in
-    between-outside at (a .count) (l .lo) (l .hi) (l .inv)
-    (c .before .before .before .before .before .loop-test .taken)
-    (c .before .before .before .before .compare-row .result) (c .before .before .before .before .compare-row .ensures)
-    (sym (c .before .is-outside .ensures) ∙ c .if2 .taken)
-
-narrow-high-requires : tie.Need-narrow-high-requires Inv-loop μ-loop
-narrow-high-requires c κs = tt
-
-narrow-low-requires : tie.Need-narrow-low-requires Inv-loop μ-loop
-narrow-low-requires c κs = omega arith
-
-loop-less : tie.Need-loop-less Inv-loop μ-loop
-loop-less c =
-    let a = c .before .before .before .before .before .before .before .before .before .args in
-    let l = c .before .before .before .before .before .before .before .before .loop in
-    let p = c .narrow-low .ensures in
-    let q = c .before .narrow-high .ensures in
-    omega (
-      arith,
-      narrower (c .before .before .before .before .before .before .compare-row .result) (l .lo) (l .hi)
-          (c .before .before .before .before .before .before .before .loop-test .taken),
-    )
-
-loop-again : tie.Need-loop-again Inv-loop μ-loop
-unfolding atPlace
-loop-again c =
-    let a = c .before .before .before .before .before .before .before .before .before .args in
-    let l = c .before .before .before .before .before .before .before .before .loop in
-    let at = atPlace (a .n) (a .row .now) (a .words .now) in
-    rw (c .narrow-low .ensures, c .before .narrow-high .ensures)
-    (between-more at (a .count) (l .lo) (l .hi) (l .inv)
-    (c .before .before .before .before .before .before .before .loop-test .taken)
-    (c .before .before .before .before .before .before .compare-row .result)
-    (c .before .before .before .before .before .before .compare-row .ensures)
-    (sym (c .before .before .before .before .before .is-equal .ensures)
-    ∙ c .before .before .before .before .if1 .left)
-    (sym (c .before .before .before .is-outside .ensures) ∙ c .before .before .if2 .left))
-
-returns-3 : tie.Need-returns-3 Inv-loop μ-loop
-returns-3 c =
-    let a = c .before .before .args in
-    let l = c .before .loop in
-    let at = atPlace (a .n) (a .row .now) (a .words .now) in
-    between-end at (a .count) (l .lo) (l .hi) (l .inv) (c .loop-test .left)
+returns-2 : tie.Need-returns-2
+returns-2 c = c .finish .ensures ∙ c .before .before .walk .ensures .left (c .before .if1 .left)
 
 pub search-spec : {M : Type 1} → statement M
-search-spec =
-    tie.close
-    (tie.spec
-    Inv-loop
-    μ-loop
-    loop-holds
-    sub-mid
-    add-mid
-    mul-compare-row
-    compare-row-requires
-    is-equal-requires
-    returns
-    is-outside-requires
-    returns-2
-    narrow-high-requires
-    narrow-low-requires
-    loop-less
-    loop-again
-    returns-3)
+search-spec = tie.close (tie.spec walk-requires returns finish-requires returns-2)
