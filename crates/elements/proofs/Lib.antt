@@ -1,2 +1,3 @@
 mod ElementSteps
 pub mod ElementLaws
+mod RowSteps

@@ -12,8 +12,8 @@ use lib.ListN.{length, getD}
 use Rattle.rows.specs.Words.{readAt}
 use Rattle.syntax.proofs.Laws.{both}
 use Rattle.value.specs.declared.Value.{Value}
-use Rattle.groups.specs.Asking.{functionAt, columnAt, asksAt, slotOf}
-use Rattle.groups.specs.Groups.{groupOf, placeIn, aggregateAt}
+use Rattle.groups.specs.Asking.{asking, functionAt, columnAt, asksAt, slotOf}
+use Rattle.groups.specs.Groups.{grouping, groupOf, placeIn, aggregateAt}
 use Rattle.groups.specs.declared.Asked.{Asked}
 use Rattle.groups.specs.declared.Groups.{Groups}
 
@@ -55,6 +55,31 @@ module _ (a : Asked) (k j f c : ℕ) (same : j ≡ k) (x y z : Bool) (first : x 
       unfolding slotOf
       slot-none d e g = rw (sym same, sym first, sym second, sym third, d, e, g) refl
 
+-- the slots are those of the two arrays
+pub slot-asking : (a : Asked) (k j f c : ℕ) → j ≡ k → slotOf (asking (a .functions) (a .columns)) j f c ≡ slotOf a k f c
+unfolding slotOf
+slot-asking a k j f c same = rw same refl
+
+-- past the fifth block every slot is 255
+module _ (a : Asked) (k f c : ℕ) (fs : length (a .functions) ≡ 15) (cs : length (a .columns) ≡ 15) (past : 5 ≤ k) where
+  asks-past : (j : ℕ) → 15 ≤ j → asksAt a j f c ≡ eqb 255 f && eqb 255 c
+  asks-past j h =
+      ap₂ (λ u v. eqb u f && eqb v c) (default-past (a .functions) j 255 (omega arith))
+      (default-past (a .columns) j 255 (omega arith))
+
+  pub slot-past : eqb 255 f && eqb 255 c ≡ true → 0 ≡ slotOf a k f c
+  unfolding slotOf
+  slot-past e = rw (asks-past (3 * k) (omega arith), e) refl
+
+  pub slot-past-none : eqb 255 f && eqb 255 c ≡ false → 3 ≡ slotOf a k f c
+  unfolding slotOf
+  slot-past-none e =
+      rw (
+        asks-past (3 * k) (omega arith) ∙ e,
+        asks-past (3 * k + 1) (omega arith) ∙ e,
+        asks-past (3 * k + 2) (omega arith) ∙ e,
+      ) refl
+
 -- there is a group and a slot
 pub told : (n m : ℕ) → ltb n 256 && ltb m 3 ≡ true → (n < 256) × (m < 3)
 told n m e = let b = both (ltb n 256) (ltb m 3) e in (ltb-true n 256 (b .0), ltb-true m 3 (b .1))
@@ -70,3 +95,9 @@ module _ (a : Asked) (fl : List ℤ) (g : Groups) (f k c : ℕ) where
       → record { num = pos 0; den = pos 1 } ≡ aggregateAt a fl g f k c
   unfolding aggregateAt
   aggregate-none n m dn dm e = rw (sym dn, sym dm, e) refl
+
+-- the arrays of the two structs tell all
+pub aggregate-asking : (a : Asked) (fl : List ℤ) (g : Groups) (f k c : ℕ)
+    → aggregateAt (asking (a .functions) (a .columns)) fl (grouping (g .at)) f k c ≡ aggregateAt a fl g f k c
+unfolding aggregateAt slotOf
+aggregate-asking a fl g f k c = refl

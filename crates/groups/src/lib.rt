@@ -5,8 +5,9 @@
 use value::Value;
 ghost use Prim.Native.Nat.{_<_};
 ghost use mathlib.Core.Path.{_≡_};
-ghost use Rattle.groups.specs.Asking.{functionAt, columnAt, asksAt, slotOf};
-ghost use Rattle.groups.specs.Groups.{groupOf, placeIn, aggregateAt};
+ghost use lib.ListN.{length};
+ghost use Rattle.groups.specs.Asking.{asking, Slots, asksAt, slotOf};
+ghost use Rattle.groups.specs.Groups.{grouping, placeIn, aggregateAt};
 
 // The aggregates that name each of the five blocks: function and column, three slots for a block, 255 where none is.
 pub struct Asked {
@@ -20,33 +21,6 @@ pub struct Groups {
     pub at: [usize; 5],
 }
 
-// The function in slot j, 255 past the last.
-fn function_at(a: Asked, j: usize) -> u8
-    ensures { λ r. ⌜ r ≡ functionAt a j ⌝ }
-{
-    if j < 15 {
-        return a.functions[j];
-    }
-    255
-}
-
-// The column in slot j, 255 past the last.
-fn column_at(a: Asked, j: usize) -> u8
-    ensures { λ r. ⌜ r ≡ columnAt a j ⌝ }
-{
-    if j < 15 {
-        return a.columns[j];
-    }
-    255
-}
-
-// Whether slot j asks for the function of the column.
-fn asks_at(a: Asked, j: usize, function: u8, column: u8) -> bool
-    ensures { λ r. ⌜ r ≡ asksAt a j function column ⌝ }
-{
-    (function_at(a, j) == function) & (column_at(a, j) == column)
-}
-
 // A block number as a place.
 fn wide(block: u8) -> usize
     ensures { λ r. ⌜ (r ≡ block) × (r < 256) ⌝ }
@@ -54,32 +28,58 @@ fn wide(block: u8) -> usize
     block as usize
 }
 
-// Which of a block's three slots asks for the function of the column; 3 where none does.
-pub fn slot_of(a: Asked, block: u8, function: u8, column: u8) -> usize
-    ensures { λ r. ⌜ r ≡ slotOf a block function column ⌝ }
+// Whether slot j asks for the function of the column.
+fn asks_at<'a>(
+    functions: &'a [u8; 15],
+    columns: &'a [u8; 15],
+    j: usize,
+    function: u8,
+    column: u8,
+) -> bool
+    requires { ⌜ j < 15 ⌝ }
+    ensures { λ r. ⌜ (Slots (now (functions .entry)) (now (columns .entry))
+        → r ≡ asksAt (asking (now (functions .entry)) (now (columns .entry))) j function column) ⌝ }
 {
-    let j = 3 * wide(block);
-    if asks_at(a, j, function, column) {
+    (functions[j] == function) & (columns[j] == column)
+}
+
+// Which of the three slots of block k asks for the function of the column; 3 where none does.
+fn slot_among<'a>(
+    functions: &'a [u8; 15],
+    columns: &'a [u8; 15],
+    k: usize,
+    function: u8,
+    column: u8,
+) -> usize
+    requires { ⌜ k < 5 ⌝ }
+    ensures { λ r. ⌜ (Slots (now (functions .entry)) (now (columns .entry))
+        → r ≡ slotOf (asking (now (functions .entry)) (now (columns .entry))) k function column) ⌝ }
+{
+    let j = 3 * k;
+    if asks_at(functions, columns, j, function, column) {
         return 0;
     }
-    if asks_at(a, j + 1, function, column) {
+    if asks_at(functions, columns, j + 1, function, column) {
         return 1;
     }
-    if asks_at(a, j + 2, function, column) {
+    if asks_at(functions, columns, j + 2, function, column) {
         return 2;
     }
     3
 }
 
-// The group of a block, 256 past the fifth.
-fn group_of(g: Groups, block: u8) -> usize
-    ensures { λ r. ⌜ r ≡ groupOf g block ⌝ }
+// Which of a block's three slots asks for the function of the column; 3 where none does.
+pub fn slot_of(a: Asked, block: u8, function: u8, column: u8) -> usize
+    ensures { λ r. ⌜ r ≡ slotOf a block function column ⌝ }
 {
     let k = wide(block);
     if k < 5 {
-        return g.at[k];
+        return slot_among(&a.functions, &a.columns, k, function, column);
     }
-    256
+    if (255 == function) & (255 == column) {
+        return 0;
+    }
+    3
 }
 
 // The place of a block's group among the values of the files: region block - 1, block 0 having that of block 1.
@@ -93,6 +93,33 @@ fn place_in(block: u8, group: usize) -> usize
     1024 * (wide(block) - 1) + 4 * group
 }
 
+// The function of a column of a block's set, as the block's group tells it: functions and columns are what the
+// aggregates ask for, groups the group of each block. (That arrays are as long as their types say is not known of those
+// behind a reference, so that the contract names the lengths.)
+pub fn aggregate_in<'a>(
+    functions: &'a [u8; 15],
+    columns: &'a [u8; 15],
+    groups: &'a [usize; 5],
+    files: &[i64],
+    function: u8,
+    block: u8,
+    column: u8,
+) -> Value
+    ensures { λ r. ⌜ (Slots (now (functions .entry)) (now (columns .entry)) → length (now (groups .entry)) ≡ 5
+        → r ≡ aggregateAt (asking (now (functions .entry)) (now (columns .entry))) (now (files .entry))
+        (grouping (now (groups .entry))) function block column) ⌝ }
+{
+    let k = wide(block);
+    if k < 5 {
+        let group = groups[k];
+        let slot = slot_among(functions, columns, k, function, column);
+        if (group < 256) & (slot < 3) {
+            return rows::read(files, place_in(block, group) + 1 + slot);
+        }
+    }
+    Value { num: 0, den: 1 }
+}
+
 // The function of a column of a block's set, as the block's group tells it.
 pub fn aggregate_at(
     a: Asked,
@@ -104,10 +131,13 @@ pub fn aggregate_at(
 ) -> Value
     ensures { λ r. ⌜ r ≡ aggregateAt a (now (files .entry)) g function block column ⌝ }
 {
-    let group = group_of(g, block);
-    let slot = slot_of(a, block, function, column);
-    if (group < 256) & (slot < 3) {
-        return rows::read(files, place_in(block, group) + 1 + slot);
-    }
-    Value { num: 0, den: 1 }
+    aggregate_in(
+        &a.functions,
+        &a.columns,
+        &g.at,
+        files,
+        function,
+        block,
+        column,
+    )
 }

@@ -1,4 +1,5 @@
 pub mod Laws
+mod Numbers
 pub mod Elements
 pub mod Records
 pub mod Runs

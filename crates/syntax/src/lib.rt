@@ -3,7 +3,7 @@
 // bytes past the end read 0.
 ghost use mathlib.Core.Path.{_≡_};
 ghost use mathlib.Core.Bool.{true, _&&_};
-ghost use Prim.Native.Nat.{ℕ, _+_, _*_, _-_, _≤_, _<_};
+ghost use Prim.Native.Nat.{ℕ, _+_, _*_, _-_, _%_, _≤_, _<_};
 ghost use lib.ListN.{length, getD};
 ghost use Rattle.model.specs.Records as model;
 ghost use Rattle.syntax.specs.Places.{itemAt, headAt, byteAt, left, wordAt, takes, fiveZeros, argumentOk, elementOk};
@@ -96,63 +96,18 @@ pub fn byte_at(s: &[u8], at: usize) -> u8
     0
 }
 
-fn wide_at(s: &[u8], at: usize) -> u64
-    ensures { λ r. ⌜ (r ≡ byteAt (now (s .entry)) at) × (r < 256) ⌝ }
-{
-    wide(byte_at(s, at))
-}
-
-// The eight bytes from at on, lowest first, those past the end 0.
-fn number_at(s: &[u8], at: usize) -> u64
-    requires { ⌜ at ≤ length (now s) ⌝ }
+// The number that the bytes from a place to the end hold, lowest first, fewer than eight of them.
+fn number_near_end(s: &[u8], at: usize) -> u64
+    requires { ⌜ (at ≤ length (now s)) × (length (now s) < at + 8) ⌝ }
     ensures { λ r. ⌜ r ≡ wordAt (now (s .entry)) at ⌝ }
 {
-    let mut n = wide_at(s, at + 7);
-    n = n * 256 + wide_at(s, at + 6);
-    n = n * 256 + wide_at(s, at + 5);
-    n = n * 256 + wide_at(s, at + 4);
-    n = n * 256 + wide_at(s, at + 3);
-    n = n * 256 + wide_at(s, at + 2);
-    n = n * 256 + wide_at(s, at + 1);
-    n * 256 + wide_at(s, at)
-}
-
-// The element at a place, decoded, where fewer than nine bytes may stand: those past the end are 0.
-fn item_near_end(s: &[u8], at: usize) -> Item
-    ensures { λ r. ⌜ r ≡ itemAt (now (s .entry)) at ⌝ }
-{
-    if at < s.len() {
-        return Item {
-            kind: byte_at(s, at),
-            argument: number_at(s, at + 1),
-            function: byte_at(s, at + 1),
-            block: byte_at(s, at + 2),
-            column: byte_at(s, at + 3),
-        };
+    let mut n = 0;
+    let mut i = s.len();
+    while i > at {
+        i -= 1;
+        n = n * 256 + wide(s[i]);
     }
-    Item {
-        kind: 0,
-        argument: 0,
-        function: 0,
-        block: 0,
-        column: 0,
-    }
-}
-
-// The element at a place, decoded: an empty one past the end.
-pub fn item_at(s: &[u8], at: usize) -> Item
-    ensures { λ r. ⌜ r ≡ itemAt (now (s .entry)) at ⌝ }
-{
-    if left_from(s, at) < 9 {
-        return item_near_end(s, at);
-    }
-    Item {
-        kind: s[at],
-        argument: word(s, at + 1),
-        function: s[at + 1],
-        block: s[at + 2],
-        column: s[at + 3],
-    }
+    n
 }
 
 // The kind and the argument of the element at a place, both 0 past the end.
@@ -160,16 +115,44 @@ pub fn head_at(s: &[u8], at: usize) -> Head
     ensures { λ r. ⌜ r ≡ headAt (now (s .entry)) at ⌝ }
 {
     if left_from(s, at) < 9 {
-        let e = item_near_end(s, at);
+        if at < s.len() {
+            let argument = number_near_end(s, at + 1);
+            return Head {
+                argument,
+                kind: s[at],
+            };
+        }
         return Head {
-            argument: e.argument,
-            kind: e.kind,
+            argument: 0,
+            kind: 0,
         };
     }
     let argument = word(s, at + 1);
     Head {
         argument,
         kind: s[at],
+    }
+}
+
+// The lowest byte of a number.
+fn low(n: u64) -> u8
+    ensures { λ r. ⌜ r ≡ n % 256 ⌝ }
+{
+    (n % 256) as u8
+}
+
+// The element at a place, decoded: an empty one past the end.
+pub fn item_at(s: &[u8], at: usize) -> Item
+    ensures { λ r. ⌜ r ≡ itemAt (now (s .entry)) at ⌝ }
+{
+    let h = head_at(s, at);
+    let argument = h.argument;
+    Item {
+        kind: h.kind,
+        argument,
+        function: low(argument),
+        block: low(argument / 256),
+        column: low(argument / 65536),
     }
 }
 

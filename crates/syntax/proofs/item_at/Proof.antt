@@ -1,68 +1,39 @@
--- All nine bytes are there, or the place is near the end. Assumes nothing.
-use mathlib.Core.Path.{refl}
-use Rattle.syntax.proofs.Laws.{item-is}
+-- The bytes of an aggregate are the three lowest of the argument. Assumes nothing.
+use Prim.Native.Nat.{ℕ, _<_}
+use native.Mathlib.Omega.{arith}
+use mathlib.Core.Path.{ap, _∙_}
 use borrow.Author.Needs.{needs}
+use Rattle.syntax.proofs.Laws.{item-is}
+use Rattle.syntax.proofs.Numbers.{function-byte, block-byte, column-byte}
+use Rattle.syntax.specs.Places.{byteAt}
+use Rattle.syntax.specs.declared.Head.{Head}
 use Rattle.syntax.proofs.item_at.Statement.{statement}
 use Rattle.syntax.proofs.item_at.Tie as tie
-use Rattle.syntax.proofs.item_at.Reads as reads
-use Rattle.syntax.proofs.item_at.Lts as lts
-use Rattle.syntax.proofs.item_near_end.Reads as item-near-end-reads
-use Rattle.syntax.proofs.left_from.Reads as left-from-reads
-use Rattle.syntax.proofs.word.Reads as word-reads
 
-left-from-requires : tie.Need-left-from-requires
-left-from-requires c κs = search needs
+head-at-requires : tie.Need-head-at-requires
+head-at-requires c κs = search needs
 
-item-near-end-requires : tie.Need-item-near-end-requires
-item-near-end-requires c κs = search needs
+low-requires : tie.Need-low-requires
+low-requires c κs = search needs
+
+low-requires-2 : tie.Need-low-requires-2
+low-requires-2 c κs = search needs
+
+low-requires-3 : tie.Need-low-requires-3
+low-requires-3 c κs = search needs
 
 returns : tie.Need-returns
-returns c = search needs
-
-shared-slice-read-t6 : tie.Need-shared-slice-read-t6
-shared-slice-read-t6 c = search needs
-
-add-word : tie.Need-add-word
-add-word c = search needs
-
-word-requires : tie.Need-word-requires
-word-requires c κs = search needs
-
-add-t8 : tie.Need-add-t8
-add-t8 c = search needs
-
-shared-slice-read-t10 : tie.Need-shared-slice-read-t10
-shared-slice-read-t10 c = search needs
-
-add-t11 : tie.Need-add-t11
-add-t11 c = search needs
-
-shared-slice-read-t13 : tie.Need-shared-slice-read-t13
-shared-slice-read-t13 c = search needs
-
-add-t14 : tie.Need-add-t14
-add-t14 c = search needs
-
-shared-slice-read-t16 : tie.Need-shared-slice-read-t16
-shared-slice-read-t16 c = search needs
-
-returns-2 : tie.Need-returns-2
-returns-2 c = item-is refl (c .before .before .before .word .ensures) refl refl refl
+returns c =
+    let a = c .before .before .before .before .before .args in
+    let h = c .before .before .before .head-at in
+    let w = ap (λ (x : Head). x .argument) (h .ensures) in
+    let bytes : (k : ℕ) → byteAt (a .s .now) k < 256 =
+    λ k. omega (arith, c .before .before .before .before .shared-slice-known .given k) in
+    item-is (ap (λ (x : Head). x .kind) (h .ensures)) w
+    (c .before .before .low .ensures ∙ function-byte (a .s .now) (a .at) (h .result .argument) w bytes)
+    (c .before .low2 .ensures ∙ block-byte (a .s .now) (a .at) (h .result .argument) w bytes)
+    (c .low3 .ensures ∙ column-byte (a .s .now) (a .at) (h .result .argument) w bytes)
 
 pub item-at-spec : {M : Type 1} → statement M
 item-at-spec =
-    tie.close
-    (tie.spec
-    left-from-requires
-    item-near-end-requires
-    returns
-    shared-slice-read-t6
-    add-word
-    word-requires
-    add-t8
-    shared-slice-read-t10
-    add-t11
-    shared-slice-read-t13
-    add-t14
-    shared-slice-read-t16
-    returns-2)
+    tie.close (tie.spec head-at-requires low-requires low-requires-2 low-requires-3 returns)
