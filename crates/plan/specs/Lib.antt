@@ -1,2 +1,3 @@
--- What one block of the subtree and one record of the plan give.
+-- What one block of the subtree and one record of the plan give, and the one variable of a set.
 pub mod Parts
+pub mod Sole
