@@ -5,5 +5,6 @@ pub mod RowLaws
 pub mod AccessLaws
 pub mod KeyLaws
 pub mod EmptyLaws
+pub mod KeepLaws
 pub mod IndexingLaws
 mod CodeLaws

@@ -2,3 +2,4 @@
 pub mod World
 pub mod Access
 pub mod Indexing
+pub mod Keeping

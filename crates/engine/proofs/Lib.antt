@@ -1,4 +1,5 @@
 pub mod ClockLaws
+pub mod MemoLaws
 pub mod AtLaws
 pub mod ScanSteps
 pub mod MatchSets
@@ -10,6 +11,7 @@ pub mod ChildFacts
 pub mod ChildAggregates
 pub mod ChildSteps
 pub mod ChildKnown
+pub mod ChildRecalled
 pub mod ChildEvaluated
 pub mod LeafLaws
 pub mod ReachLaws

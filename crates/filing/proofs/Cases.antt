@@ -99,29 +99,29 @@ module _ (a : Asked) (k n i columns count b f : ℕ) (sets fl : List ℤ) (same 
           (wide ∙ column ∙ ap (λ j. columnAt a (3 * j + i)) same)
 
 -- ---- a group filled
-module _ (a : Asked) (k n columns count : ℕ) (sets fl : List ℤ) where
+module _ (a : Asked) (k n columns count : ℕ) (mark : Value) (sets fl : List ℤ) where
   pub slotsFiled-is : slotsFiled a k n columns count sets fl
       ≡ slotFiled a k n 2 columns count sets
       (slotFiled a k n 1 columns count sets (slotFiled a k n 0 columns count sets fl))
   unfolding slotsFiled
   slotsFiled-is = refl
 
-  pub group-past : 256 ≤ n → filed a k n columns count sets fl ≡ fl
+  pub group-past : 256 ≤ n → filed a k n columns count mark sets fl ≡ fl
   unfolding filed
   group-past h = rw (le-ltb n 256 h) refl
 
   pub group-in : n < 256
-      → filed a k n columns count sets fl
-      ≡ wordsWith (slotsFiled a k n columns count sets fl) (placeIn k n) (record { num = pos 1; den = pos 1 })
+      → filed a k n columns count mark sets fl
+      ≡ wordsWith (slotsFiled a k n columns count sets fl) (placeIn k n) mark
   unfolding filed
   group-in h = rw (lt-ltb n 256 h) refl
 
   pub group-put : (x y z out : List ℤ) (p : ℕ) → n < 256 → x ≡ slotFiled a k n 0 columns count sets fl
       → y ≡ slotFiled a k n 1 columns count sets x → z ≡ slotFiled a k n 2 columns count sets y → p ≡ placeIn k n
-      → out ≡ wordsWith z p (record { num = pos 1; den = pos 1 }) → out ≡ filed a k n columns count sets fl
+      → out ≡ wordsWith z p mark → out ≡ filed a k n columns count mark sets fl
   group-put x y z out p h e f g place put =
       put
-      ∙ ap₂ (λ l q. wordsWith l q (record { num = pos 1; den = pos 1 }))
+      ∙ ap₂ (λ l q. wordsWith l q mark)
       (g ∙ ap (slotFiled a k n 2 columns count sets) (f ∙ ap (slotFiled a k n 1 columns count sets) e)
       ∙ sym slotsFiled-is) place
       ∙ sym (group-in h)

@@ -123,14 +123,18 @@ module _ (k : ℕ) (l m : List ℤ) (same : region k l ≡ region k m) (long : l
       (at (2 * (placeIn k n + i)) (8 * n + 2 * i) (omega arith) (omega arith))
       (at (2 * (placeIn k n + i) + 1) (8 * n + 2 * i + 1) (omega arith) (omega arith))
 
+  pub region-mark : (n : ℕ) → n < 256 → readAt l (placeIn k n) ≡ readAt m (placeIn k n)
+  region-mark n h =
+      let e : placeIn k n + 0 ≡ placeIn k n = omega arith in
+      subst (λ p. readAt l p ≡ readAt m p) e (region-value n 0 h (omega arith))
+
   -- what a block's groups tell depends on the block's region alone
   pub region-filed : (n : ℕ) → isFiled l k n ≡ isFiled m k n
   region-filed n = ⊎-elim inside past (le-or (suc n) 256)
     where
       inside : n < 256 → isFiled l k n ≡ isFiled m k n
       inside h =
-          let e : placeIn k n + 0 ≡ placeIn k n = omega arith in
-          filed-agree m l k n (subst (λ p. readAt l p ≡ readAt m p) e (region-value n 0 h (omega arith)))
+          filed-agree m l k n (region-mark n h)
 
       past : 256 < suc n → isFiled l k n ≡ isFiled m k n
       past h = filed-past l k n (omega arith) ∙ sym (filed-past m k n (omega arith))
@@ -274,7 +278,7 @@ pub slot-told : (a : Asked) (k i columns count : ℕ) (sets : List ℤ) (v : Val
 slot-told a k i columns count sets v e = slotValue-is a k i columns count sets ∙ ap told e
 
 -- ---- a group filled
-module _ (a : Asked) (k n columns count : ℕ) (sets fl : List ℤ) where
+module _ (a : Asked) (k n columns count : ℕ) (mark : Value) (sets fl : List ℤ) where
   abbrev one : List ℤ
   one = slotFiled a k n 0 columns count sets fl
 
@@ -283,9 +287,6 @@ module _ (a : Asked) (k n columns count : ℕ) (sets fl : List ℤ) where
 
   abbrev three : List ℤ
   three = slotFiled a k n 2 columns count sets two
-
-  abbrev mark : Value
-  mark = record { num = pos 1; den = pos 1 }
 
   abbrev from : ℕ
   from = 2 * placeIn k n
@@ -298,73 +299,81 @@ module _ (a : Asked) (k n columns count : ℕ) (sets fl : List ℤ) where
       (slot-same a k n 1 columns count sets one from (from + 8) (omega arith) (omega arith)))
       (slot-same a k n 2 columns count sets two from (from + 8) (omega arith) (omega arith))
 
-  whole : n < 256 → filed a k n columns count sets fl ≡ wordsWith three (placeIn k n) mark
+  whole : n < 256 → filed a k n columns count mark sets fl ≡ wordsWith three (placeIn k n) mark
   whole h =
-      group-in a k n columns count sets fl h
-      ∙ ap (λ l. wordsWith l (placeIn k n) mark) (slotsFiled-is a k n columns count sets fl)
+      group-in a k n columns count mark sets fl h
+      ∙ ap (λ l. wordsWith l (placeIn k n) mark) (slotsFiled-is a k n columns count mark sets fl)
 
-  filed-same : Same from (from + 8) fl (filed a k n columns count sets fl)
+  filed-same : Same from (from + 8) fl (filed a k n columns count mark sets fl)
   filed-same = ⊎-elim inside past (le-or (suc n) 256)
     where
-      inside : n < 256 → Same from (from + 8) fl (filed a k n columns count sets fl)
+      inside : n < 256 → Same from (from + 8) fl (filed a k n columns count mark sets fl)
       inside h =
           subst (Same from (from + 8) fl) (sym (whole h))
           (same-then from (from + 8) fl three (wordsWith three (placeIn k n) mark) slots-same
           (with-same three (placeIn k n) mark from (from + 8) (omega arith) (omega arith)))
 
-      past : 256 < suc n → Same from (from + 8) fl (filed a k n columns count sets fl)
+      past : 256 < suc n → Same from (from + 8) fl (filed a k n columns count mark sets fl)
       past h =
-          subst (Same from (from + 8) fl) (sym (group-past a k n columns count sets fl (omega arith)))
+          subst (Same from (from + 8) fl) (sym (group-past a k n columns count mark sets fl (omega arith)))
           (same-self from (from + 8) fl)
 
-  pub filed-length : length (filed a k n columns count sets fl) ≡ length fl
+  pub filed-length : length (filed a k n columns count mark sets fl) ≡ length fl
   filed-length = filed-same .long
 
   -- every other group of the block tells what it told
   pub filed-other : (m : ℕ) → (m ≡ n → ⊥)
-      → (isFiled (filed a k n columns count sets fl) k m ≡ isFiled fl k m)
+      → (isFiled (filed a k n columns count mark sets fl) k m ≡ isFiled fl k m)
       × ((i : ℕ) → i < 3
-      → readAt (filed a k n columns count sets fl) (placeIn k m + 1 + i) ≡ readAt fl (placeIn k m + 1 + i))
-  filed-other m h = (filed-agree fl (filed a k n columns count sets fl) k m (value (placeIn k m) apart), read)
+      → readAt (filed a k n columns count mark sets fl) (placeIn k m + 1 + i) ≡ readAt fl (placeIn k m + 1 + i))
+      × (readAt (filed a k n columns count mark sets fl) (placeIn k m) ≡ readAt fl (placeIn k m))
+  filed-other m h = (
+    filed-agree fl (filed a k n columns count mark sets fl) k m (value (placeIn k m) apart),
+    read,
+    value (placeIn k m) apart,
+  )
     where
       value : (q : ℕ) → (2 * q + 1 < from) ⊎ (from + 8 ≤ 2 * q)
-          → readAt (filed a k n columns count sets fl) q ≡ readAt fl q
-      value q d = same-read from (from + 8) fl (filed a k n columns count sets fl) q filed-same d
+          → readAt (filed a k n columns count mark sets fl) q ≡ readAt fl q
+      value q d = same-read from (from + 8) fl (filed a k n columns count mark sets fl) q filed-same d
 
       apart : (2 * placeIn k m + 1 < from) ⊎ (from + 8 ≤ 2 * placeIn k m)
       apart = ⊎-elim (λ x. inl (omega arith)) (λ x. inr (omega arith)) (le-or (suc m) n)
 
       read : (i : ℕ) → i < 3
-          → readAt (filed a k n columns count sets fl) (placeIn k m + 1 + i) ≡ readAt fl (placeIn k m + 1 + i)
+          → readAt (filed a k n columns count mark sets fl) (placeIn k m + 1 + i) ≡ readAt fl (placeIn k m + 1 + i)
       read i g =
           value (placeIn k m + 1 + i)
           (⊎-elim (λ x. inl (omega arith)) (λ x. inr (omega arith)) (le-or (suc m) n))
 
   -- and so does every other block
-  pub filed-region : (j : ℕ) → 1 ≤ k → 1 ≤ j → (j ≡ k → ⊥) → region j (filed a k n columns count sets fl) ≡ region j fl
+  pub filed-region : (j : ℕ) → 1 ≤ k → 1 ≤ j → (j ≡ k → ⊥) → region j (filed a k n columns count mark sets fl) ≡ region j fl
   filed-region j h g d = ⊎-elim inside past (le-or (suc n) 256)
     where
-      inside : n < 256 → region j (filed a k n columns count sets fl) ≡ region j fl
+      inside : n < 256 → region j (filed a k n columns count mark sets fl) ≡ region j fl
       inside i =
-          same-region from (from + 8) fl (filed a k n columns count sets fl) j filed-same
+          same-region from (from + 8) fl (filed a k n columns count mark sets fl) j filed-same
           (⊎-elim (λ x. inl (omega arith)) (λ x. inr (omega arith)) (le-or j k))
 
-      past : 256 < suc n → region j (filed a k n columns count sets fl) ≡ region j fl
-      past i = ap (region j) (group-past a k n columns count sets fl (omega arith))
+      past : 256 < suc n → region j (filed a k n columns count mark sets fl) ≡ region j fl
+      past i = ap (region j) (group-past a k n columns count mark sets fl (omega arith))
 
   -- the group itself is filled, and tells what the block's slots ask for
   module _ (long : length fl ≡ 8192) (few : k ≤ 4) (h : n < 256) where
     three-long : length three ≡ 8192
     three-long = slots-same .long ∙ long
 
-    pub filed-marked : isFiled (filed a k n columns count sets fl) k n ≡ true
-    filed-marked =
-        filed-in (filed a k n columns count sets fl) k n h
-        ∙ ap (λ (v : Value). leZ (pos 1) (v .num))
-        (ap (λ l. readAt l (placeIn k n)) (whole h)
-        ∙ with-read three (placeIn k n) mark (omega (arith, three-long)))
+    pub filed-mark : readAt (filed a k n columns count mark sets fl) (placeIn k n) ≡ mark
+    filed-mark =
+        ap (λ l. readAt l (placeIn k n)) (whole h)
+        ∙ with-read three (placeIn k n) mark (omega (arith, three-long))
 
-    last : (q : ℕ) → placeIn k n < q → readAt (filed a k n columns count sets fl) q ≡ readAt three q
+    pub filed-marked : isFiled (filed a k n columns count mark sets fl) k n ≡ leZ (pos 1) (mark .num)
+    filed-marked =
+        filed-in (filed a k n columns count mark sets fl) k n h
+        ∙ ap (λ (v : Value). leZ (pos 1) (v .num)) filed-mark
+
+    last : (q : ℕ) → placeIn k n < q → readAt (filed a k n columns count mark sets fl) q ≡ readAt three q
     last q g =
         ap (λ l. readAt l q) (whole h)
         ∙ same-read (2 * placeIn k n) (2 * placeIn k n + 2) three (wordsWith three (placeIn k n) mark) q
@@ -372,7 +381,7 @@ module _ (a : Asked) (k n columns count : ℕ) (sets fl : List ℤ) where
         (inr (omega arith))
 
     pub filed-slot : (i : ℕ) → i < 3 → (functionAt a (3 * k + i) ≡ 255 → ⊥)
-        → readAt (filed a k n columns count sets fl) (placeIn k n + 1 + i) ≡ slotValue a k i columns count sets
+        → readAt (filed a k n columns count mark sets fl) (placeIn k n + 1 + i) ≡ slotValue a k i columns count sets
     filed-slot i g e = last (placeIn k n + 1 + i) (omega arith) ∙ go i g e
       where
         one-long : length one ≡ 8192

@@ -1,13 +1,13 @@
 -- The files in words. Block k's region is the 1,024 values from place 1024 * (k - 1) on, in 256 groups of four: a mark,
--- 1 where the group is filled, and one value for each of the block's three slots.
+-- whose numerator is at least 1 where the group is filled, and one value for each of the block's three slots.
 --   isFiled fl k n             group n of block k is filled: its mark is at least 1
 --   wordsBefore k              the words before the region of block k; wordsIn n: the words of n groups, 256 at most
 --   emptied k n fl             the first n groups of block k made zero, fl itself where the words end before
 --   told g                     the value of aggregate g, 0/0 where there is none
 --   slotValue a k i m n s      what slot i of block k asks for, of the set of n rows and m columns in the words s
 --   slotFiled a k g i m n s fl that value put into slot i of group g, fl itself where the slot asks for nothing
---   slotsFiled a k g m n s fl  the three slots of group g filled; filed a k g m n s fl: these, and the mark; fl itself
---                              where g is past 255
+--   slotsFiled a k g m n s fl  the three slots of group g filled; filed a k g m n v s fl: these, and the mark v; fl
+--                              itself where g is past 255
 --   region k fl                the words of the region of block k
 use Prim.Native.Nat.{ℕ, _+_, _*_, _-_, min}
 use mathlib.Core.Bool.{Bool, false, cond}
@@ -59,11 +59,9 @@ slotsFiled a k n columns count sets fl =
     slotFiled a k n 2 columns count sets
     (slotFiled a k n 1 columns count sets (slotFiled a k n 0 columns count sets fl))
 
-unfoldable pub filed : Asked → (k n columns count : ℕ) → List ℤ → List ℤ → List ℤ
-filed a k n columns count sets fl =
-    cond (ltb n 256)
-    (wordsWith (slotsFiled a k n columns count sets fl) (placeIn k n) (record { num = pos 1; den = pos 1 }))
-    fl
+unfoldable pub filed : Asked → (k n columns count : ℕ) → Value → List ℤ → List ℤ → List ℤ
+filed a k n columns count mark sets fl =
+    cond (ltb n 256) (wordsWith (slotsFiled a k n columns count sets fl) (placeIn k n) mark) fl
 
 unfoldable pub region : ℕ → List ℤ → List ℤ
 region k fl = take 2048 (drop (wordsBefore k) fl)

@@ -2,6 +2,7 @@
 // for aggregate files). A block's file has 256 groups; a group is filled from a set of the block's rows, and then tells
 // the aggregates of that set. Every function takes every number: a group past 255 has no values, and what the words
 // have no room for is not written.
+mod memo;
 mod slots;
 mod walk;
 
@@ -12,6 +13,14 @@ ghost use mathlib.Core.Path.{_≡_};
 ghost use Rattle.limits.specs.Limits.{othersIn};
 ghost use Rattle.filing.specs.Asks.{noAsked, askAll};
 ghost use Rattle.filing.specs.Files.{isFiled, emptied, filed};
+ghost use Rattle.filing.specs.Memo.{recallIn, markOf};
+
+// What a block's group tells of an evaluation at a value: which group, whether it remembers one, and the trials it took.
+pub struct Memory {
+    pub group: usize,
+    pub known: bool,
+    pub trials: u64,
+}
 
 // The aggregates that the conditions and output lists of a question ask of each block.
 pub fn asks_of(s: &[u8], q: Question) -> Asked
@@ -58,8 +67,9 @@ pub fn file_group(
     sets: &[i64],
     columns: usize,
     count: usize,
+    mark: Value,
 )
-    ensures { λ _. ⌜ now (files .exit) ≡ filed a block group columns count (now (sets .entry)) (now (files .entry)) ⌝ }
+    ensures { λ _. ⌜ now (files .exit) ≡ filed a block group columns count mark (now (sets .entry)) (now (files .entry)) ⌝ }
 {
     if group >= 256 {
         return;
@@ -67,9 +77,33 @@ pub fn file_group(
     slots::file_slot(files, a, block, group, 0, sets, columns, count);
     slots::file_slot(files, a, block, group, 1, sets, columns, count);
     slots::file_slot(files, a, block, group, 2, sets, columns, count);
-    rows::write(
-        files,
-        slots::place_in(block, group),
-        Value { num: 1, den: 1 },
-    );
+    rows::write(files, slots::place_in(block, group), mark);
+}
+
+// ---- evaluations remembered
+
+// What the files tell of an evaluation of a block at a value.
+pub fn recall(files: &[i64], block: u8, key: i64) -> Memory
+    ensures { λ r. ⌜ r ≡ recallIn (now (files .entry)) block key ⌝ }
+{
+    let group = memo::key_group(key);
+    let mark = rows::read(files, slots::place_in(block, group));
+    Memory {
+        group: group,
+        known: slots::marked(mark) & memo::has_key(mark, key),
+        trials: memo::less_one(memo::count_in(mark)),
+    }
+}
+
+// The mark of an evaluation at a value; where a set is too large, or the trials pass 62 bits, one that remembers nothing.
+pub fn mark_of(large: bool, trials: u64, key: i64) -> Value
+    ensures { λ r. ⌜ r ≡ markOf large trials key ⌝ }
+{
+    if large | (4611686018427387904 <= trials) {
+        return Value { num: 0, den: 1 };
+    }
+    Value {
+        num: (trials + 1) as i64,
+        den: key,
+    }
 }

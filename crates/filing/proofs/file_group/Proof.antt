@@ -9,7 +9,7 @@ use Rattle.filing.proofs.file_group.Tie as tie
 returns : tie.Need-returns
 returns c =
     let given = c .before .args in
-    sym (group-past (given .a) (given .block) (given .group) (given .columns) (given .count) (given .sets .now)
+    sym (group-past (given .a) (given .block) (given .group) (given .columns) (given .count) (given .mark) (given .sets .now)
     (given .files .now) (omega arith))
 
 file-slot-requires : tie.Need-file-slot-requires
@@ -38,7 +38,7 @@ returns-2 c =
     let second = third .before .before .before in
     let first = second .before .before .before in
     let given = first .before .before .before .args in
-    group-put (given .a) (given .block) (given .group) (given .columns) (given .count) (given .sets .now)
+    group-put (given .a) (given .block) (given .group) (given .columns) (given .count) (given .mark) (given .sets .now)
     (given .files .now) (first .file-slot .last .0) (second .file-slot2 .last .0) (third .file-slot3 .last .0)
     (written .write .last .0) (placed .place-in .result) (omega arith) (first .file-slot .ensures)
     (second .file-slot2 .ensures) (third .file-slot3 .ensures) (placed .place-in .ensures .0)
