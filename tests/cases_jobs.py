@@ -4,7 +4,7 @@
 `cases_jobs.py` writes it to standard output, `cases_jobs.py --write` to crates/cases/stdin. It holds the question files
 and accepted questions, each under admitted plans of different paths and at budgets about the count; sets about 256
 rows; the limits on both sides; damaged questions and plans; the largest numerators; buffers short, exact and longer;
-data and questions of the greatest length. Most tables are small: the whole is under two megabytes.
+data and questions of the greatest length. Most tables are small: the whole is about two megabytes.
 """
 
 import itertools

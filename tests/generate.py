@@ -20,6 +20,8 @@ from naive.trials import Spent, Trials
 
 MOST_TRIALS = 4_000         # of a generated question by file
 DEEPEST_LEVEL = 4
+SMALL = [-1, 0, 0, 1, 1, 1, 2, 2, 3]
+SHARING = [0, 0, 256, -1, 1, 1, 1, 257, 257, -2]    # remembered in one place: 0, 256 and -1; 1, 257 and -2
 
 
 @dataclass
@@ -55,23 +57,25 @@ class Draft:
 
 
 def random_tables(draw):
-    """One to four tables of few small values, so that rows meet; some repeated rows, some values at the ends."""
-    tables = []
+    """One to four tables of few values, so that rows meet, small or 256 apart; some repeated rows, some values at the
+    ends."""
+    tables, few = [], draw.one_of([SMALL, SMALL, SHARING])
     for _ in range(draw.between(1, 4)):
         columns, rows = draw.between(1, 4), []
         for _ in range(draw.one_of([0, 2, 3, 4, 4, 5, 6, 7, 8])):
             if rows and draw.chance(20):
                 rows.append(list(draw.one_of(rows)))
             else:
-                rows.append([random_value(draw) for _ in range(columns)])
+                rows.append([random_value(draw, few) for _ in range(columns)])
         tables.append((columns, rows))
     return tables
 
 
-def random_value(draw):
+def random_value(draw, few=SMALL):
+    """One of few values, or now and then one far from them."""
     if draw.chance(4):
         return draw.one_of([-1_000_000, 1_000_000, 999_999, -7, 905])
-    return draw.one_of([-1, 0, 0, 1, 1, 1, 2, 2, 3])
+    return draw.one_of(few)
 
 
 class QuestionMaker:
