@@ -347,7 +347,8 @@ module _ (a : Asked) (k n columns count : ℕ) (mark : Value) (sets fl : List �
           (⊎-elim (λ x. inl (omega arith)) (λ x. inr (omega arith)) (le-or (suc m) n))
 
   -- and so does every other block
-  pub filed-region : (j : ℕ) → 1 ≤ k → 1 ≤ j → (j ≡ k → ⊥) → region j (filed a k n columns count mark sets fl) ≡ region j fl
+  pub filed-region : (j : ℕ) → 1 ≤ k → 1 ≤ j → (j ≡ k → ⊥) → region j (filed a k n columns count mark sets fl) ≡ region
+      j fl
   filed-region j h g d = ⊎-elim inside past (le-or (suc n) 256)
     where
       inside : n < 256 → region j (filed a k n columns count mark sets fl) ≡ region j fl

@@ -156,11 +156,13 @@ module _ (fl : List ℤ) (k : ℕ) (z : ℤ) where
 
 -- ---- the mark of an evaluation
 module _ (large : Bool) (t : ℕ) (z : ℤ) where
-  pub mark-nothing : (large || leb 4611686018427387904 t) ≡ true → record { num = pos 0; den = pos 1 } ≡ markOf large t z
+  pub mark-nothing : (large || leb 4611686018427387904 t) ≡ true → record { num = pos 0; den = pos 1 } ≡ markOf large t
+      z
   unfolding markOf
   mark-nothing e = rw e refl
 
-  pub mark-some : (large || leb 4611686018427387904 t) ≡ false → record { num = pos (t + 1); den = z } ≡ markOf large t z
+  pub mark-some : (large || leb 4611686018427387904 t) ≡ false → record { num = pos (t + 1); den = z } ≡ markOf large t
+      z
   unfolding markOf
   mark-some e = rw e refl
 

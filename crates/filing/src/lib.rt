@@ -15,7 +15,8 @@ ghost use Rattle.filing.specs.Asks.{noAsked, askAll};
 ghost use Rattle.filing.specs.Files.{isFiled, emptied, filed};
 ghost use Rattle.filing.specs.Memo.{recallIn, markOf};
 
-// What a block's group tells of an evaluation at a value: which group, whether it remembers one, and the trials it took.
+// What a block's group tells of an evaluation at a value: which group, whether it remembers one, and the trials it
+// took.
 pub struct Memory {
     pub group: usize,
     pub known: bool,
@@ -95,7 +96,8 @@ pub fn recall(files: &[i64], block: u8, key: i64) -> Memory
     }
 }
 
-// The mark of an evaluation at a value; where a set is too large, or the trials pass 62 bits, one that remembers nothing.
+// The mark of an evaluation at a value; where a set is too large, or the trials pass 62 bits, one that remembers
+// nothing.
 pub fn mark_of(large: bool, trials: u64, key: i64) -> Value
     ensures { λ r. ⌜ r ≡ markOf large trials key ⌝ }
 {

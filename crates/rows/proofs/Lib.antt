@@ -1,6 +1,6 @@
 -- The laws that other crates cite: WordLaws (get and put, a row built, a set copied), Inserting (`outcome`,
--- `encodes-after`), Aggregating (`aggregated`), FairSets (`set-fair`), FairValues (the values, rows and aggregates of an
--- evaluation), Cost (`nine-comparisons`). The rest serve these.
+-- `encodes-after`), Aggregating (`aggregated`), FairSets (`set-fair`), FairValues (the values, rows and aggregates of
+-- an evaluation), Cost (`nine-comparisons`). The rest serve these.
 pub mod WordLaws
 pub mod CompareLoop
 pub mod PlainLaws

@@ -9,7 +9,8 @@ use Rattle.filing.proofs.file_group.Tie as tie
 returns : tie.Need-returns
 returns c =
     let given = c .before .args in
-    sym (group-past (given .a) (given .block) (given .group) (given .columns) (given .count) (given .mark) (given .sets .now)
+    sym (group-past (given .a) (given .block) (given .group) (given .columns) (given .count) (given .mark) (given .sets
+    .now)
     (given .files .now) (omega arith))
 
 file-slot-requires : tie.Need-file-slot-requires

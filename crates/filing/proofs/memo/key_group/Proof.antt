@@ -14,8 +14,11 @@ distance-of-requires c κs = search needs
 returns : tie.Need-returns
 returns c =
     let start = c .before in
-    let z = start .args .key in
-    (key-is z (c .distance-of .result) (c .distance-of .ensures ∙ ap distance (back z (start .fits .key .sfits))), omega arith)
+    let z = start .args .key in (
+      key-is z (c .distance-of .result) (c .distance-of .ensures ∙ ap distance (back z (start .fits .key .sfits))),
+      omega
+          arith,
+    )
 
 pub key-group-spec : {M : Type 1} → statement M
 key-group-spec = tie.close (tie.spec distance-of-requires returns)
