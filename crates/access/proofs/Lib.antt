@@ -4,6 +4,7 @@ pub mod SureBlocks
 pub mod RowLaws
 pub mod AccessLaws
 pub mod KeyLaws
+pub mod MergeFreeLaws
 pub mod EmptyLaws
 pub mod KeepLaws
 pub mod IndexingLaws

@@ -22,5 +22,9 @@ pub mod LeafSteps
 pub mod GatherSteps
 pub mod SettleLaws
 pub mod RefusalSteps
+pub mod AfterFacts
+pub mod AgainSteps
+pub mod MoveSteps
+pub mod FirstSteps
 pub mod RunSteps
 pub mod RunsAgree

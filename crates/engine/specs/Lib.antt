@@ -3,6 +3,7 @@ pub mod Clock
 pub mod Standing
 pub mod Leaves
 pub mod Steps
+pub mod After
 pub mod Settling
 pub mod Runs
 pub mod RunAgreement

@@ -13,7 +13,7 @@ ghost use mathlib.Core.Path.{_≡_};
 ghost use Rattle.limits.specs.Limits.{othersIn};
 ghost use Rattle.filing.specs.Asks.{noAsked, askAll};
 ghost use Rattle.filing.specs.Files.{isFiled, emptied, filed};
-ghost use Rattle.filing.specs.Memo.{recallIn, markOf};
+ghost use Rattle.filing.specs.Memo.{recallIn, markOf, markIn, metMark};
 
 // What a block's group tells of an evaluation at a value: which group, whether it remembers one, and the trials it
 // took.
@@ -108,4 +108,33 @@ pub fn mark_of(large: bool, trials: u64, key: i64) -> Value
         num: (trials + 1) as i64,
         den: key,
     }
+}
+
+// ---- values met
+
+// What lent words, a mark for each group, tell of a value.
+pub fn recall_mark(marks: &[i64], key: i64) -> Memory
+    ensures { λ r. ⌜ r ≡ markIn (now (marks .entry)) key ⌝ }
+{
+    let group = memo::key_group(key);
+    let met = rows::read(marks, group);
+    Memory {
+        group: group,
+        known: slots::marked(met) & memo::has_key(met, key),
+        trials: memo::less_one(memo::count_in(met)),
+    }
+}
+
+// The mark of a value that is met; where the trials that follow it are told and below 62 bits, it tells one more than
+// these.
+pub fn met_mark(told: bool, trials: u64, key: i64) -> Value
+    ensures { λ r. ⌜ r ≡ metMark told trials key ⌝ }
+{
+    if told & (trials < 4611686018427387904) {
+        return Value {
+            num: (trials + 2) as i64,
+            den: key,
+        };
+    }
+    Value { num: 1, den: key }
 }

@@ -52,5 +52,7 @@ pub mod TrialEquations
 pub mod ValueEquations
 pub mod BisectionLaws
 pub mod MetLaws
+pub mod AgainLaws
 pub mod ScanStepLaws
+pub mod AfterLaws
 pub mod ListingExamples

@@ -18,6 +18,7 @@ use Rattle.syntax.specs.Places.{byteAt, wordAt, recordEnd}
 use Rattle.syntax.specs.declared.Block.{Block}
 use Rattle.scope.specs.Gathering.{holdsAt, elementsHold, recordsHold}
 use Rattle.scope.specs.Masks.{maskOf}
+use Rattle.scope.specs.Shown.{shown}
 use Rattle.scope.proofs.MaskLaws.{mask-same, mask-or}
 
 past-3 : (k : ℕ) → min (suc (suc (suc (suc k)))) 4 ≡ 4
@@ -109,6 +110,14 @@ module _ (bs : List ℕ) (b : Block) (v : ℕ) where
       (elements-any 3 bs v (isFixed v) (holds-fixed bs v) (b .outputs) (b .«outputs_at»)))
       ∙ sym (refers-is v (described bs b))
 
+  pub shown-held : recordsHold 1 2 bs (b .conditions) (b .«conditions_at») v
+      || elementsHold 2 bs (b .outputs) (b .«outputs_at») v
+      ≡ shown v (described bs b)
+  unfolding described shown
+  shown-held =
+      ap₂ _||_ (conditions-any 2 bs v (isVar v) (holds-variable bs v) (b .conditions) (b .«conditions_at»))
+      (elements-any 2 bs v (isVar v) (holds-variable bs v) (b .outputs) (b .«outputs_at»))
+
   pub names-held : elementsHold 4 bs (b .outputs) (b .«outputs_at») v
       || recordsHold 1 4 bs (b .conditions) (b .«conditions_at») v
       ≡ namesIn v (described bs b)
@@ -134,6 +143,16 @@ module _ (bs : List ℕ) (b : Block) where
       ap₂ bitOr e (ap₂ bitOr f g ∙ mask-or q r)
       ∙ mask-or p (λ v. q v || r v)
       ∙ mask-same (λ v. p v || (q v || r v)) (λ v. refers v (described bs b)) (λ v l. refers-held bs b v)
+
+  pub shown-is : (x y : ℕ) → x ≡ maskOf (recordsHold 1 2 bs (b .conditions) (b .«conditions_at»))
+      → y ≡ maskOf (elementsHold 2 bs (b .outputs) (b .«outputs_at»))
+      → bitOr x y ≡ maskOf (λ v. shown v (described bs b))
+  shown-is x y e f =
+      let p = recordsHold 1 2 bs (b .conditions) (b .«conditions_at») in
+      let q = elementsHold 2 bs (b .outputs) (b .«outputs_at») in
+      ap₂ bitOr e f
+      ∙ mask-or p q
+      ∙ mask-same (λ v. p v || q v) (λ v. shown v (described bs b)) (λ v l. shown-held bs b v)
 
   pub named-is : (x y : ℕ) → x ≡ maskOf (elementsHold 4 bs (b .outputs) (b .«outputs_at»))
       → y ≡ maskOf (recordsHold 1 4 bs (b .conditions) (b .«conditions_at»))

@@ -15,6 +15,7 @@ ghost use Rattle.syntax.specs.Places.{headOf, entriesOf};
 ghost use Rattle.syntax.specs.Described.{described, blocksIn};
 ghost use Rattle.scope.specs.Masks.{hasBit, maskOf};
 ghost use Rattle.scope.specs.Gathering.{holdsAt, elementsHold, recordsHold};
+ghost use Rattle.scope.specs.Shown.{shown};
 ghost use Rattle.scope.specs.Columns.{elementOf, passesOn, isAverage, absentBlock};
 
 // A byte as a length.
@@ -146,6 +147,15 @@ pub fn used(s: &[u8], b: syntax::Block) -> u16
     let conditions = records_hold(1, s, b.conditions_at, b.conditions, 3);
     let outputs = elements_hold(s, b.outputs_at, b.outputs, 3);
     rows | (conditions | outputs)
+}
+
+// The variables that stand in a block as its own, past its relation rows: in its conditions and its output list.
+pub fn shown(s: &[u8], b: syntax::Block) -> u16
+    ensures { λ r. ⌜ r ≡ maskOf (λ v. shown v (described (now (s .entry)) b)) ⌝ }
+{
+    let conditions = records_hold(1, s, b.conditions_at, b.conditions, 2);
+    let outputs = elements_hold(s, b.outputs_at, b.outputs, 2);
+    conditions | outputs
 }
 
 // The blocks that an aggregate of a block names: in its output list and its conditions. Numbers past 15 are left out.
