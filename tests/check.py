@@ -25,7 +25,7 @@ from sql import Sql, TooLong
 HERE = FilePath(__file__).resolve().parent
 QUESTIONS = HERE / "questions"
 STORED = HERE / "stored"
-JOBS_SEED, JOBS = 4747, 260
+JOBS_SEED, JOBS = 4748, 260
 INDEX_SEED, INDEX_CALLS = 474, 60
 MOST_PLANS = 24
 PROGRAMS = {"value_expected.py": "value_test", "tables_expected.py": "tables_test",      # who computes the stdout of

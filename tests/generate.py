@@ -1,4 +1,5 @@
-"""Jobs at random from a seed: accepted questions with all admitted plans, crowded sets, limits, damaged jobs.
+"""Jobs at random from a seed: accepted questions with all admitted plans, values that come again, crowded sets, limits,
+damaged jobs.
 
 Command line: `generate.py jobs SEED COUNT > stream`, `generate.py indexes SEED COUNT > index stream`; the answers
 are `evaluator.py answers < stream` and `evaluator.py indexes < index stream`. `generate.py limits > stream` has the
@@ -22,6 +23,8 @@ MOST_TRIALS = 4_000         # of a generated question by file
 DEEPEST_LEVEL = 4
 SMALL = [-1, 0, 0, 1, 1, 1, 2, 2, 3]
 SHARING = [0, 0, 256, -1, 1, 1, 1, 257, 257, -2]    # remembered in one place: 0, 256 and -1; 1, 257 and -2
+TOP_ROWS = [0, 1, 1, 1, 2, 2, 2, 3], [1, 2, 2, 2, 3]            # how many relation rows: block 0 with children, without
+BELOW_ROWS = [0, 1, 1, 1, 1, 2, 3], [1, 1, 1, 1, 2, 2, 3]       # .. every other block
 
 
 @dataclass
@@ -67,8 +70,19 @@ def random_tables(draw):
                 rows.append(list(draw.one_of(rows)))
             else:
                 rows.append([random_value(draw, few) for _ in range(columns)])
+        if draw.chance(50):
+            repeat_column(draw, columns, rows)
         tables.append((columns, rows))
     return tables
+
+
+def repeat_column(draw, columns, rows):
+    """Has one column take one value or two in most rows."""
+    column = draw.below(columns)
+    values = [draw.one_of(rows)[column] for _ in range(2) if rows]
+    for row in rows:
+        if draw.chance(80):
+            row[column] = draw.one_of(values)
 
 
 def random_value(draw, few=SMALL):
@@ -119,7 +133,7 @@ class QuestionMaker:
     def relation_rows(self, number):
         self.variables.append([])
         block, leaf = self.blocks[number], not self.children(number)
-        for _ in range(self.draw.one_of([1, 1, 1, 1, 2, 2, 3] if leaf else [0, 1, 1, 1, 1, 2, 3])):
+        for _ in range(self.draw.one_of(TOP_ROWS[leaf] if number == 0 else BELOW_ROWS[leaf])):
             table = self.draw.below(len(self.tables))
             empty = self.draw.chance(8)
             block.relation_rows.append((table, [
@@ -190,6 +204,8 @@ class QuestionMaker:
 
 def random_draft(draw):
     """A question accepted as far as 11, with an admitted plan and at most MOST_TRIALS by file; mostly of some rows."""
+    if draw.chance(20):
+        return followed_draft(draw)
     while True:
         tables = random_tables(draw)
         draft = Draft(tables, QuestionMaker(draw, tables).make())
@@ -201,6 +217,46 @@ def random_draft(draw):
             continue
         draft.paths = [draw.one_of(paths[-3:]) for paths in draft.admitted()]
         return draft
+
+
+def followed_draft(draw):
+    """Runs of few tanks and days, so that both come again; each is used in up to two further places."""
+    tanks = draw.one_of([[1, 2], [1, 2, 3], [0, 256, -1]])
+    tables = [(2, [[draw.one_of(tanks), draw.between(1, 2)] for _ in range(draw.between(3, 7))])]
+    for low in (5, 50):             # pans, and samples of them
+        tables.append((4, [[low + row, draw.one_of(tanks), draw.between(1, 2), draw.between(5, 7)]
+                           for row in range(draw.between(2, 4))]))
+    empty, of_pan = (fmt.EMPTY, 0), (fmt.FIXED, 2) if draw.chance(60) else (fmt.EMPTY, 0)
+    top = fmt.BlockText(fmt.NO_PARENT, [(0, [(fmt.VARIABLE, 0), (fmt.VARIABLE, 1)])], [], [(fmt.VARIABLE, 2)])
+    for pan in range(2, draw.between(3, 4)):
+        top.relation_rows.append((1, [(fmt.VARIABLE, pan), empty, empty, empty]))
+    each = fmt.BlockText(0, [(2, [(fmt.VARIABLE, 4), empty, empty, of_pan])], [], [(fmt.VARIABLE, 4)])
+    if draw.chance(60):
+        top.output.append(fmt.aggregate(draw.below(2), 1))
+    for variable in range(2):       # the tank, the day
+        for use in draw.shuffled(range(7))[:draw.below(3)]:
+            use_again(draw, top, each, variable, use)
+    draft = Draft(tables, [top, each])
+    draft.paths = [draw.one_of(paths) for paths in draft.admitted()]
+    return draft
+
+
+def use_again(draw, top, each, variable, use):
+    """Uses a variable of the first relation row in one place more: a later relation row, the child's, the output list,
+    a condition, one with an aggregate, one of the child."""
+    own, fixed = (fmt.VARIABLE, variable), (fmt.FIXED, variable)
+    operator, constant = draw.below(6), (fmt.CONSTANT, draw.below(3))
+    if use < 3:
+        row, element = [(top.relation_rows[1], own), (top.relation_rows[-1], own), (each.relation_rows[0], fixed)][use]
+        row[1][variable + 1] = element
+    elif use == 3:
+        top.output.append(own)
+    elif use == 4:
+        top.conditions.append((operator, *draw.shuffled([own, constant])))
+    elif use == 5:
+        top.conditions.append((operator, *draw.shuffled([own, fmt.aggregate(0, 1)])))
+    else:
+        each.conditions.append((operator, *draw.shuffled([fixed, constant])))
 
 
 def trials_of(draft):
