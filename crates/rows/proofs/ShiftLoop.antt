@@ -1,5 +1,6 @@
--- The loop that moves words up, the last first, and one turn of it for a value. Assumes nothing.
-use Prim.Native.Nat.{ℕ, _+_, _*_, _-_, _<_, _≤_}
+-- The loop that moves words up, the last first: one turn of it for a word, for a value and for four values, and moving
+-- in two parts. Assumes nothing.
+use Prim.Native.Nat.{ℕ, zero, suc, _+_, _*_, _-_, _<_, _≤_}
 use native.Mathlib.Omega.{arith}
 use mathlib.Core.Bool.{Bool, true, false}
 use mathlib.Core.List.{List, _++_}
@@ -118,6 +119,48 @@ module _ (l : List ℤ) (p e m : ℕ) (fits : e + m ≤ length l) (s : List ℤ)
           go false true x y = second i (ltb-false i (p + m) x) (ltb-true i (e + m) y)
           go false false x y = third i (ltb-false i (e + m) y)
 
+-- ---- moving in two parts
+-- the words s after n turns from j down
+turns : ℕ → ℕ → List ℤ → ℕ → List ℤ
+turns m zero s j = s
+turns m (suc n) s j = set (turns m n s j) (j - n - 1 + m) (getD (turns m n s j) (j - n - 1) (pos 0))
+
+moved-turns : (l : List ℤ) (p e m : ℕ) → e + m ≤ length l → (s : List ℤ) (j : ℕ) → Moved l p e m s j
+    → (n : ℕ) → p + n ≤ j → Moved l p e m (turns m n s j) (j - n)
+unfolding turns
+moved-turns l p e m fits s j h zero q = let i : j - 0 ≡ j = omega arith in rw i h
+moved-turns l p e m fits s j h (suc n) q =
+    let b = moved-more l p e m fits (turns m n s j) (j - n)
+    (moved-turns l p e m fits s j h n (omega arith)) (omega arith) in
+    let i : j - suc n ≡ j - n - 1 = omega arith in
+    rw i b
+
+-- moving the words from j to e is the state of the loop at j
+moved-of-shifted : (l : List ℤ) (p e m : ℕ) → e + m ≤ length l → (j : ℕ) → p ≤ j → j ≤ e
+    → Moved l p e m (shifted j e m l) j
+moved-of-shifted l p e m fits j low high =
+    let i : e - (e - j) ≡ j = omega arith in
+    let a = moved-turns l p e m fits l e (moved-begin l p e m (omega arith)) (e - j) (omega arith) in
+    let b = moved-turns l j e m fits l e (moved-begin l j e m high) (e - j) (omega arith) in
+    let same : turns m (e - j) l e ≡ shifted j e m l = moved-end l j e m fits _ (e - (e - j)) b (omega arith) in
+    rw same at (rw i at a)
+
+-- the words from j to e moved, then those from p to j: those from p to e moved
+pub shifted-join : (l : List ℤ) (p j e m : ℕ) → e + m ≤ length l → p ≤ j → j ≤ e
+    → shifted p j m (shifted j e m l) ≡ shifted p e m l
+shifted-join l p j e m fits low high =
+    let s = shifted j e m l in
+    let h = moved-of-shifted l p e m fits j low high in
+    let fits' : j + m ≤ length s = omega (arith, h .long) in
+    let a = moved-turns l p e m fits s j h (j - p) (omega arith) in
+    let b = moved-turns s p j m fits' s j (moved-begin s p j m low) (j - p) (omega arith) in
+    sym (moved-end s p j m fits' _ (j - (j - p)) b (omega arith))
+    ∙ moved-end l p e m fits _ (j - (j - p)) a (omega arith)
+
+-- none moved
+pub shifted-none : (l : List ℤ) (e m : ℕ) → e + m ≤ length l → l ≡ shifted e e m l
+shifted-none l e m fits = moved-end l e e m fits l e (moved-begin l e e m (omega arith)) (omega arith)
+
 -- ---- a value is two words
 -- the value at place j - 1 put m places further up
 pub moved-value : (l : List ℤ) (p e m : ℕ) → e + m ≤ roomOf (length l) → (s : List ℤ) (j : ℕ)
@@ -137,3 +180,28 @@ moved-value l p e m fits s j h lt =
     let both = set-comm s (2 * (j - 1 + m)) (2 * (j - 1 + m) + 1) (getD s (2 * (j - 1)) (pos 0))
     (getD s (2 * (j - 1) + 1) (pos 0)) (λ x. omega arith) in
     rw both (rw (i, i', k, k', same) at b)
+
+-- the same with the value as it was before the loop
+moved-first : (l : List ℤ) (p e m : ℕ) → e + m ≤ roomOf (length l) → (s : List ℤ) (k j : ℕ) → k ≡ j + 1
+    → Moved l (wordsOf p) (wordsOf e) (wordsOf m) s (wordsOf k) → p ≤ j
+    → Moved l (wordsOf p) (wordsOf e) (wordsOf m) (withValue s (j + m) (valueAt l j)) (wordsOf j)
+moved-first l p e m fits s k j q h le =
+    let i : k - 1 ≡ j = omega arith in
+    let a = moved-value l p e m fits s k h (omega arith) in
+    let x : getD s (2 * j) (pos 0) ≡ getD l (2 * j) (pos 0) = h .below (2 * j) (omega arith) in
+    let y : getD s (2 * j + 1) (pos 0) ≡ getD l (2 * j + 1) (pos 0) = h .below (2 * j + 1) (omega arith) in
+    rw (i, x, y) at a
+
+-- four values read, then put, the last first
+pub moved-four : (l : List ℤ) (j m : ℕ) → j + 4 + m ≤ roomOf (length l)
+    → withValue
+    (withValue (withValue (withValue l (j + 3 + m) (valueAt l (j + 3))) (j + 2 + m) (valueAt l (j + 2))) (j + 1 + m)
+    (valueAt l (j + 1))) (j + m) (valueAt l j)
+    ≡ shifted (wordsOf j) (wordsOf (j + 4)) (wordsOf m) l
+moved-four l j m fits =
+    let start = moved-begin l (2 * j) (2 * (j + 4)) (2 * m) (omega arith) in
+    let d = moved-first l j (j + 4) m fits l (j + 4) (j + 3) (omega arith) start (omega arith) in
+    let c = moved-first l j (j + 4) m fits _ (j + 3) (j + 2) (omega arith) d (omega arith) in
+    let b = moved-first l j (j + 4) m fits _ (j + 2) (j + 1) (omega arith) c (omega arith) in
+    let a = moved-first l j (j + 4) m fits _ (j + 1) j (omega arith) b (omega arith) in
+    moved-end l (2 * j) (2 * (j + 4)) (2 * m) (omega arith) _ (2 * j) a (omega arith)

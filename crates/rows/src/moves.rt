@@ -9,12 +9,42 @@ ghost use lib.IntN.{pos};
 ghost use Rattle.rows.specs.Words.{roomOf, wordsOf};
 ghost use Rattle.rows.specs.Insertion.{shifted};
 
-// The values from place p to place e moved up by m places, the last first.
+// The four values from place j on moved up by m places: all are read before the first is put.
+pub(crate) fn four(words: &mut [i64], j: usize, m: usize)
+    requires { ⌜ j + 4 + m ≤ roomOf (length (now words)) ⌝ }
+    ensures { λ _. ⌜ now (words .exit) ≡ shifted (wordsOf j) (wordsOf (j + 4)) (wordsOf m) (now (words .entry)) ⌝ }
+{
+    let a = words::get(words, j);
+    let b = words::get(words, j + 1);
+    let c = words::get(words, j + 2);
+    let d = words::get(words, j + 3);
+    words::put(words, j + 3 + m, d);
+    words::put(words, j + 2 + m, c);
+    words::put(words, j + 1 + m, b);
+    words::put(words, j + m, a);
+}
+
+// The values below place e moved up by m places, the last four first, while four are left from place p on: the place
+// from which on they are moved.
+pub(crate) fn fours(words: &mut [i64], p: usize, e: usize, m: usize) -> usize
+    requires { ⌜ (p ≤ e) × (e + m ≤ roomOf (length (now words))) ⌝ }
+    ensures { λ j. ⌜ (p ≤ j) × (j ≤ e)
+        × (now (words .exit) ≡ shifted (wordsOf j) (wordsOf e) (wordsOf m) (now (words .entry))) ⌝ }
+{
+    let mut j: usize = e;
+    while p + 4 <= j {
+        j -= 4;
+        four(words, j, m);
+    }
+    j
+}
+
+// The values from place p to place e moved up by m places, the last first: by fours, then the rest one by one.
 pub(crate) fn shift(words: &mut [i64], p: usize, e: usize, m: usize)
     requires { ⌜ (p ≤ e) × (e + m ≤ roomOf (length (now words))) ⌝ }
     ensures { λ _. ⌜ now (words .exit) ≡ shifted (wordsOf p) (wordsOf e) (wordsOf m) (now (words .entry)) ⌝ }
 {
-    let mut j: usize = e;
+    let mut j = fours(words, p, e, m);
     while p < j {
         j -= 1;
         let v = words::get(words, j);

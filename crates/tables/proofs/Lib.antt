@@ -10,6 +10,12 @@ pub mod Putting
 pub mod LaidLaws
 pub mod AscendingLaws
 pub mod SortLaws
+pub mod CountLaws
+pub mod Tallying
+pub mod RankLaws
+pub mod SlotLaws
+pub mod CountedLaws
+pub mod RowsLaws
 pub mod IndexNumbers
 pub mod RangeLaws
 pub mod TriedLaws

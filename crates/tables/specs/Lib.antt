@@ -3,3 +3,5 @@ pub mod Places
 pub mod Ranges
 pub mod Insertion
 pub mod Zeroing
+pub mod Indexing
+pub mod Counting
