@@ -20,6 +20,11 @@ pub mod AnswerSteps
 pub mod MatchReturns
 pub mod LeafSteps
 pub mod GatherSteps
+pub mod StraightSteps
+pub mod StraightFacts
+pub mod StemAnswers
+pub mod StemSteps
+pub mod StemFacts
 pub mod SettleLaws
 pub mod RefusalSteps
 pub mod AfterFacts

@@ -3,6 +3,8 @@ pub mod Clock
 pub mod Standing
 pub mod Leaves
 pub mod Steps
+pub mod Straight
+pub mod Stem
 pub mod After
 pub mod Settling
 pub mod Runs
