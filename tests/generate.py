@@ -1,5 +1,5 @@
-"""Jobs at random from a seed: accepted questions with all admitted plans, values that come again, crowded sets, limits,
-damaged jobs.
+"""Jobs at random from a seed: accepted questions with all admitted plans, values that come again, blocks read from the
+cells, crowded sets, limits, damaged jobs.
 
 Command line: `generate.py jobs SEED COUNT > stream`, `generate.py indexes SEED COUNT > index stream`; the answers
 are `evaluator.py answers < stream` and `evaluator.py indexes < index stream`. `generate.py limits > stream` has the
@@ -206,6 +206,8 @@ def random_draft(draw):
     """A question accepted as far as 11, with an admitted plan and at most MOST_TRIALS by file; mostly of some rows."""
     if draw.chance(20):
         return followed_draft(draw)
+    if draw.chance(12):
+        return stem_draft(draw)
     while True:
         tables = random_tables(draw)
         draft = Draft(tables, QuestionMaker(draw, tables).make())
@@ -257,6 +259,54 @@ def use_again(draw, top, each, variable, use):
         top.conditions.append((operator, *draw.shuffled([own, fmt.aggregate(0, 1)])))
     else:
         each.conditions.append((operator, *draw.shuffled([fixed, constant])))
+
+
+def stem_draft(draw):
+    """Three levels, tanks, their pans, and samples and weights of a pan: most blocks but the first can be read from the
+    cells of their tables, and pans and tanks come again."""
+    tanks, keys = draw.one_of([[1, 2], [0, 1, 2]]), draw.one_of([[1, 2], [1, 2, 3], [0, 256, -1], [1, 257, -2, 64]])
+    tables = [(1, [[draw.one_of(tanks)] for _ in range(draw.between(2, 4))]),
+              (3, [[draw.one_of(keys), draw.one_of(tanks), draw.one_of(keys)] for _ in range(draw.between(3, 7))])]
+    for columns, low in (3, 10), (2, 70):       # samples, weights
+        tables.append((columns, [[draw.one_of(keys), *(low + draw.below(4) for _ in range(columns - 1))]
+                                 for _ in range(draw.between(2, 6))]))
+    places = [draw.shuffled(range(columns)) for columns, _ in tables]
+    tables = [(columns, [[row[old] for old in place] for row in rows]) for (columns, rows), place in zip(tables, places)]
+
+    def row(table, entries):
+        return table, [entries[old] for old in places[table]]
+
+    var, fixed, empty = (lambda n: (fmt.VARIABLE, n)), (lambda n: (fmt.FIXED, n)), (fmt.EMPTY, 0)
+    odd = draw.below(16)                        # 0 to 5: something that is not read so
+    shelf = var(1) if odd == 0 else var(2)      # the pan twice in its row
+    middle = fmt.BlockText(0, [row(1, [var(1), fixed(0), shelf])])
+    samples = fmt.BlockText(1, [row(2, [fixed(0) if odd == 1 else fixed(1), var(3),
+                                        (fmt.CONSTANT, 11) if odd == 2 else draw.one_of([var(4), var(4), empty])])])
+    samples.output = draw.shuffled([element for _, entries in samples.relation_rows for element in entries
+                                    if element[0] == fmt.VARIABLE])
+    weights = fmt.BlockText(1, [row(3, [fixed(draw.between(1, 2)) if odd else fixed(1), var(5)])], [], [var(5)])
+    if odd == 3:
+        samples.conditions.append((draw.below(6), var(3), (fmt.CONSTANT, 11)))
+    children = draw.one_of([[samples], [samples], [samples, weights]])
+    middle.output = [draw.one_of([var(1), shelf]) for _ in range(draw.below(3))]
+    for number, child in enumerate(children, 2):
+        for _ in range(1 if len(children) == 2 else draw.between(1, 2)):
+            column = draw.below(len(child.output))
+            function = draw.below(5)
+            middle.output.append(fmt.aggregate(function, number, column if function else 0))
+    middle.output = draw.shuffled(middle.output)
+    if odd in (4, 5):
+        left = var(1) if odd == 4 else fmt.aggregate(0, 2)
+        middle.conditions.append((draw.below(6), left, (fmt.CONSTANT, draw.between(1, 2))))
+    top = fmt.BlockText(fmt.NO_PARENT, [(0, [var(0)])], [], [var(0)])
+    for _ in range(draw.between(1, 3)):
+        column = draw.below(len(middle.output))
+        kind, argument = middle.output[column]
+        function = draw.one_of([2, 3] if kind == fmt.AGGREGATE and argument & 255 == 4 else [0, 1, 2, 3, 4])
+        top.output.append(fmt.aggregate(function, 1, column if function else 0))
+    draft = Draft(tables, [top, middle, *children])
+    draft.paths = [draw.one_of(paths + [path for path in paths if path[0] == 1] * 6) for paths in draft.admitted()]
+    return draft
 
 
 def trials_of(draft):
