@@ -36,13 +36,15 @@ module _ (e ps ks : List ℕ) (ds : ℕ → Direct) (n j : ℕ) where
   es = entriesFrom e 0 n
 
   pub child-is : (d : Direct) (way c : ℕ) → d ≡ ds j → way ≡ byteAt ps (2 + 4 * j) → c ≡ columnWith es (d .fixed)
-      → d .ok && eqb way 1 && eqb (d .fixed + 1) (getD ks j 0) && ltb c n ≡ childFits es ps ks ds j
+      → d .ok && ((eqb way 1 && eqb (d .fixed + 1) (getD ks j 0)) || (eqb way 2 && eqb (getD ks j 0) 0)) && ltb c n
+      ≡ childFits es ps ks ds j
   unfolding childFits
   child-is d way c d-is way-is c-is =
       let f-is = add-one (d .fixed) ∙ ap (λ (y : Direct). suc (y .fixed)) d-is in
       let k-is = wanted-column es d (ds j) c d-is c-is in
       let n-is = sym (entries-long e 0 n) in
-      λ t. d-is t .ok && eqb (way-is t) 1 && eqb (f-is t) (getD ks j 0) && ltb (k-is t) (n-is t)
+      λ t. d-is t .ok && ((eqb (way-is t) 1 && eqb (f-is t) (getD ks j 0)) || (eqb (way-is t) 2 && eqb (getD ks j 0) 0))
+      && ltb (k-is t) (n-is t)
 
   has-is : (m : ℕ) (b : Bool) → j < 5 → b ≡ ltb j 16 && hasBit m j → b ≡ hasBit m j
   has-is m b h e = e ∙ ap (λ t. t && hasBit m j) (lt-ltb j 16 (omega (arith, h)))

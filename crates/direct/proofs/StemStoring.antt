@@ -24,7 +24,7 @@ use Rattle.direct.specs.declared.Direct.{Direct}
 use Rattle.direct.specs.declared.Stem.{Stem}
 use Rattle.direct.specs.Direct.{columnWith, fixedIn, freeAt, entriesOf, outputsOf, may, noDirect}
 use Rattle.direct.specs.Stored.{directIn}
-use Rattle.direct.specs.Stem.{childFits, outputFits, passes, stemFits, noStem, wholeStem, stemOf}
+use Rattle.direct.specs.Stem.{remembered, merged, childFits, outputFits, passes, stemFits, noStem, wholeStem, stemOf}
 use Rattle.direct.specs.Stem.{stemFrom, stemIn, outputWords, childWords, stemWords, Small, StoredStem, AllStems}
 use Rattle.direct.proofs.StoringLaws.{put-take, put-before, put-word, four, flag, same-words, inside}
 
@@ -158,7 +158,7 @@ passes-same : (es : List Element) (ps ks : List ℕ) (ds ds′ : ℕ → Direct)
     → passes es ps ks ds m j ≡ passes es ps ks ds′ m j
 unfolding passes childFits
 passes-same es ps ks ds ds′ m j e = λ t.
-    not (hasBit m j) || (e t .ok && eqb (byteAt ps (2 + 4 * j)) 1 && eqb (suc (e t .fixed)) (getD ks j 0)
+    not (hasBit m j) || (e t .ok && (remembered ps ks (e t .fixed) j || merged ps ks j)
     && ltb (columnWith es (e t .fixed)) (length es))
 
 module _ (bs ps ks : List ℕ) (ds ds′ : ℕ → Direct) (o : Outline) (k : ℕ) (e : (j : ℕ) → j < 5 → ds j ≡ ds′ j) where

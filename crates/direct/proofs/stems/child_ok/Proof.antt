@@ -26,14 +26,14 @@ cast-column-with c = search needs
 column-with-requires : tie.Need-column-with-requires
 column-with-requires c κs = search needs
 
-cast-result : tie.Need-cast-result
-cast-result c = search needs
+cast-remembered : tie.Need-cast-remembered
+cast-remembered c = search needs
 
-add-result : tie.Need-add-result
-add-result c = search needs
+add-remembered : tie.Need-add-remembered
+add-remembered c = search needs
 
-cast-result-2 : tie.Need-cast-result-2
-cast-result-2 c = search needs
+cast-remembered-2 : tie.Need-cast-remembered-2
+cast-remembered-2 c = search needs
 
 returns : tie.Need-returns
 returns c =
@@ -57,7 +57,7 @@ child-ok-spec =
     array-read-key
     cast-column-with
     column-with-requires
-    cast-result
-    add-result
-    cast-result-2
+    cast-remembered
+    add-remembered
+    cast-remembered-2
     returns)
