@@ -11,7 +11,7 @@ use lib.Signed.{leZ}
 use borrow.Author.Tests.{lt-ltb, le-ltb, lt-leb, le-leb, eq-eqb, ne-eqb}
 use borrow.Rule.Slice.PartMut.{putMid, midOf}
 use Rattle.groups.specs.Asking.{functionAt, columnAt}
-use Rattle.groups.specs.Groups.{placeIn}
+use Rattle.groups.specs.Groups.{markPlace, slotPlace}
 use Rattle.groups.specs.declared.Asked.{Asked}
 use Rattle.rows.specs.Columns.{aggregateIn}
 use Rattle.rows.specs.declared.Aggregate.{Aggregate}
@@ -25,7 +25,7 @@ pub filed-past : (fl : List ℤ) (k n : ℕ) → 256 ≤ n → isFiled fl k n �
 unfolding isFiled
 filed-past fl k n h = rw (le-ltb n 256 h) refl
 
-pub filed-in : (fl : List ℤ) (k n : ℕ) → n < 256 → isFiled fl k n ≡ leZ (pos 1) (readAt fl (placeIn k n) .num)
+pub filed-in : (fl : List ℤ) (k n : ℕ) → n < 256 → isFiled fl k n ≡ leZ (pos 1) (readAt fl (markPlace k n) .num)
 unfolding isFiled
 filed-in fl k n h = rw (lt-ltb n 256 h) refl
 
@@ -64,7 +64,7 @@ module _ (a : Asked) (k n i columns count : ℕ) (sets fl : List ℤ) where
 
   pub slot-some : (functionAt a (3 * k + i) ≡ 255 → ⊥)
       → slotFiled a k n i columns count sets fl
-      ≡ wordsWith fl (placeIn k n + 1 + i) (slotValue a k i columns count sets)
+      ≡ wordsWith fl (slotPlace k n i) (slotValue a k i columns count sets)
   unfolding slotFiled
   slot-some e = rw (ne-eqb (functionAt a (3 * k + i)) 255 e) refl
 
@@ -84,11 +84,11 @@ module _ (a : Asked) (k n i columns count b f : ℕ) (sets fl : List ℤ) (same 
   slot-left e = sym (slot-none a k n i columns count sets fl (function-is ∙ e))
 
   pub slot-put : (c x p : ℕ) (g : Aggregate) (v : Value) (out : List ℤ) → (f ≡ 255 → ⊥) → c ≡ columnAt a (3 * b + i)
-      → x ≡ c → g ≡ aggregateIn f x columns count sets → v ≡ told g → p ≡ placeIn k n
-      → out ≡ wordsWith fl (p + 1 + i) v → out ≡ slotFiled a k n i columns count sets fl
+      → x ≡ c → g ≡ aggregateIn f x columns count sets → v ≡ told g → p ≡ slotPlace k n i
+      → out ≡ wordsWith fl p v → out ≡ slotFiled a k n i columns count sets fl
   slot-put c x p g v out h column wide agg value place put =
       put
-      ∙ ap₂ (λ y w. wordsWith fl (y + 1 + i) w) place
+      ∙ ap₂ (wordsWith fl) place
       (value ∙ ap told (agg ∙ asked) ∙ sym (slotValue-is a k i columns count sets))
       ∙ sym (slot-some a k n i columns count sets fl (λ e. h (sym function-is ∙ e)))
     where
@@ -112,12 +112,12 @@ module _ (a : Asked) (k n columns count : ℕ) (mark : Value) (sets fl : List �
 
   pub group-in : n < 256
       → filed a k n columns count mark sets fl
-      ≡ wordsWith (slotsFiled a k n columns count sets fl) (placeIn k n) mark
+      ≡ wordsWith (slotsFiled a k n columns count sets fl) (markPlace k n) mark
   unfolding filed
   group-in h = rw (lt-ltb n 256 h) refl
 
   pub group-put : (x y z out : List ℤ) (p : ℕ) → n < 256 → x ≡ slotFiled a k n 0 columns count sets fl
-      → y ≡ slotFiled a k n 1 columns count sets x → z ≡ slotFiled a k n 2 columns count sets y → p ≡ placeIn k n
+      → y ≡ slotFiled a k n 1 columns count sets x → z ≡ slotFiled a k n 2 columns count sets y → p ≡ markPlace k n
       → out ≡ wordsWith z p mark → out ≡ filed a k n columns count mark sets fl
   group-put x y z out p h e f g place put =
       put

@@ -13,7 +13,7 @@ use lib.ListN.{length-replicate, getD-replicate, List·getD-append}
 use lib.Seq.{ext-getD, getD-take, getD-drop, getD-append-add, getD-set-other, length-take-le}
 use lib.Signed.{leZ}
 use Rattle.groups.specs.Asking.{functionAt, columnAt}
-use Rattle.groups.specs.Groups.{placeIn}
+use Rattle.groups.specs.Groups.{markPlace, slotPlace}
 use Rattle.groups.specs.declared.Asked.{Asked}
 use Rattle.model.proofs.ListEquations.{overwrite-is}
 use Rattle.rows.proofs.WordLaws.{length-with, get-put, read-in, write-past, write-in, zeroed}
@@ -41,6 +41,23 @@ same-self a b l = record { long = refl; words = λ i h. refl }
 same-then : (a b : ℕ) (l m n : List ℤ) → Same a b l m → Same a b m n → Same a b l n
 same-then a b l m n x y = record { long = y .long ∙ x .long; words = λ i h. y .words i h ∙ x .words i h }
 
+-- ---- what is read depends on the words read
+read-agree : (l m : List ℤ) (q : ℕ) → length m ≡ length l → word m (2 * q) ≡ word l (2 * q)
+    → word m (2 * q + 1) ≡ word l (2 * q + 1) → readAt m q ≡ readAt l q
+unfolding readAt
+read-agree l m q e f g = rw (e, f, g) refl
+
+same-read : (a b : ℕ) (l m : List ℤ) (q : ℕ) → Same a b l m → (2 * q + 1 < a) ⊎ (b ≤ 2 * q) → readAt m q ≡ readAt l q
+same-read a b l m q s h =
+    read-agree l m q (s .long)
+    (s .words (2 * q) (⊎-elim (λ x. inl (omega arith)) (λ x. inr x) h))
+    (s .words (2 * q + 1) (⊎-elim (λ x. inl x) (λ x. inr (omega arith)) h))
+
+filed-agree : (l m : List ℤ) (k n : ℕ) → readAt m (markPlace k n) ≡ readAt l (markPlace k n)
+    → isFiled m k n ≡ isFiled l k n
+unfolding isFiled
+filed-agree l m k n e = rw e refl
+
 -- ---- one value written
 module _ (l : List ℤ) (p : ℕ) (v : Value) where
   with-same : (a b : ℕ) → a ≤ 2 * p → 2 * p + 2 ≤ b → Same a b l (wordsWith l p v)
@@ -58,29 +75,17 @@ module _ (l : List ℤ) (p : ℕ) (v : Value) where
           (λ e. ⊎-elim (λ x. omega arith) (λ x. omega arith) d)
           ∙ getD-set-other l (2 * p) i (v .num) (pos 0) (λ e. ⊎-elim (λ x. omega arith) (λ x. omega arith) d)
 
+  with-other : (q : ℕ) → (q ≡ p → ⊥) → readAt (wordsWith l p v) q ≡ readAt l q
+  with-other q h =
+      same-read (2 * p) (2 * p + 2) l (wordsWith l p v) q (with-same (2 * p) (2 * p + 2) (omega arith) (omega arith))
+      (⊎-elim (λ x. inl (omega arith)) (λ x. inr (omega arith)) (le-or (suc q) p))
+
   with-read : p < roomOf (length l) → readAt (wordsWith l p v) p ≡ v
   with-read h =
       ap (λ m. readAt m p) (write-in l p v h)
       ∙ read-in (withValue l p v) p
       (subst (λ n. p < roomOf n) (sym (length-with l p v)) h)
       ∙ get-put l p v h
-
--- ---- what is read depends on the words read
-read-agree : (l m : List ℤ) (q : ℕ) → length m ≡ length l → word m (2 * q) ≡ word l (2 * q)
-    → word m (2 * q + 1) ≡ word l (2 * q + 1) → readAt m q ≡ readAt l q
-unfolding readAt
-read-agree l m q e f g = rw (e, f, g) refl
-
-same-read : (a b : ℕ) (l m : List ℤ) (q : ℕ) → Same a b l m → (2 * q + 1 < a) ⊎ (b ≤ 2 * q) → readAt m q ≡ readAt l q
-same-read a b l m q s h =
-    read-agree l m q (s .long)
-    (s .words (2 * q) (⊎-elim (λ x. inl (omega arith)) (λ x. inr x) h))
-    (s .words (2 * q + 1) (⊎-elim (λ x. inl x) (λ x. inr (omega arith)) h))
-
-filed-agree : (l m : List ℤ) (k n : ℕ) → readAt m (placeIn k n) ≡ readAt l (placeIn k n)
-    → isFiled m k n ≡ isFiled l k n
-unfolding isFiled
-filed-agree l m k n e = rw e refl
 
 -- ---- regions
 region-word : (k : ℕ) (l : List ℤ) (i : ℕ) → i < 2048 → word (region k l) i ≡ word l (wordsBefore k + i)
@@ -117,16 +122,14 @@ module _ (k : ℕ) (l m : List ℤ) (same : region k l ≡ region k m) (long : l
   at : (x j : ℕ) → x ≡ wordsBefore k + j → j < 2048 → word l x ≡ word m x
   at x j e h = subst (λ y. word l y ≡ word m y) (sym e) (region-at j h)
 
-  region-value : (n i : ℕ) → n < 256 → i < 4 → readAt l (placeIn k n + i) ≡ readAt m (placeIn k n + i)
-  region-value n i h g =
-      read-agree m l (placeIn k n + i) long
-      (at (2 * (placeIn k n + i)) (8 * n + 2 * i) (omega arith) (omega arith))
-      (at (2 * (placeIn k n + i) + 1) (8 * n + 2 * i + 1) (omega arith) (omega arith))
+  region-value : (q j : ℕ) → q ≡ 1024 * (k - 1) + j → j < 1024 → readAt l q ≡ readAt m q
+  region-value q j e h =
+      read-agree m l q long
+      (at (2 * q) (2 * j) (omega arith) (omega arith))
+      (at (2 * q + 1) (2 * j + 1) (omega arith) (omega arith))
 
-  pub region-mark : (n : ℕ) → n < 256 → readAt l (placeIn k n) ≡ readAt m (placeIn k n)
-  region-mark n h =
-      let e : placeIn k n + 0 ≡ placeIn k n = omega arith in
-      subst (λ p. readAt l p ≡ readAt m p) e (region-value n 0 h (omega arith))
+  pub region-mark : (n : ℕ) → n < 256 → readAt l (markPlace k n) ≡ readAt m (markPlace k n)
+  region-mark n h = region-value (markPlace k n) n refl (omega arith)
 
   -- what a block's groups tell depends on the block's region alone
   pub region-filed : (n : ℕ) → isFiled l k n ≡ isFiled m k n
@@ -140,10 +143,8 @@ module _ (k : ℕ) (l m : List ℤ) (same : region k l ≡ region k m) (long : l
       past h = filed-past l k n (omega arith) ∙ sym (filed-past m k n (omega arith))
 
   pub region-read : (n i : ℕ) → n < 256 → i < 3
-      → readAt l (placeIn k n + 1 + i) ≡ readAt m (placeIn k n + 1 + i)
-  region-read n i h g =
-      let e : placeIn k n + (1 + i) ≡ placeIn k n + 1 + i = omega arith in
-      subst (λ p. readAt l p ≡ readAt m p) e (region-value n (1 + i) h (omega arith))
+      → readAt l (slotPlace k n i) ≡ readAt m (slotPlace k n i)
+  region-read n i h g = region-value (slotPlace k n i) (256 + 3 * n + i) (omega arith) (omega arith)
 
 -- ---- groups made empty
 module _ (k n : ℕ) (fl : List ℤ) where
@@ -231,12 +232,12 @@ emptied-unfiled k groups n fl long few h = ⊎-elim inside past (le-or (suc n) 2
 
     inside : n < 256 → isFiled (emptied k groups fl) k n ≡ false
     inside g =
-        let e : wordsBefore k + 8 * n ≡ 2 * placeIn k n = omega arith in
+        let e : wordsBefore k + 2 * n ≡ 2 * markPlace k n = omega arith in
         filed-in (emptied k groups fl) k n g
         ∙ ap (λ (v : Value). leZ (pos 1) (v .num))
-        (read-in (emptied k groups fl) (placeIn k n) (omega (arith, emptied-length k groups fl)))
+        (read-in (emptied k groups fl) (markPlace k n) (omega (arith, emptied-length k groups fl)))
         ∙ ap (leZ (pos 1))
-        (subst (λ i. word (emptied k groups fl) i ≡ pos 0) e (zero-part k groups fl room (8 * n) (omega arith)))
+        (subst (λ i. word (emptied k groups fl) i ≡ pos 0) e (zero-part k groups fl room (2 * n) (omega arith)))
 
 -- and every other region is as it was
 pub emptied-region : (k groups : ℕ) (fl : List ℤ) (j : ℕ) → 1 ≤ k → 1 ≤ j → (j ≡ k → ⊥)
@@ -247,7 +248,7 @@ emptied-region k groups fl j h g n =
 
 -- ---- a slot filled
 module _ (a : Asked) (k n i columns count : ℕ) (sets fl : List ℤ) where
-  slot-same : (x y : ℕ) → x ≤ 2 * (placeIn k n + 1 + i) → 2 * (placeIn k n + 1 + i) + 2 ≤ y
+  slot-same : (x y : ℕ) → x ≤ 2 * slotPlace k n i → 2 * slotPlace k n i + 2 ≤ y
       → Same x y fl (slotFiled a k n i columns count sets fl)
   slot-same x y h g = go (ℕ-discrete (functionAt a (3 * k + i)) 255)
     where
@@ -255,21 +256,20 @@ module _ (a : Asked) (k n i columns count : ℕ) (sets fl : List ℤ) where
       go (yes e) = subst (Same x y fl) (sym (slot-none a k n i columns count sets fl e)) (same-self x y fl)
       go (no e) =
           subst (Same x y fl) (sym (slot-some a k n i columns count sets fl e))
-          (with-same fl (placeIn k n + 1 + i) (slotValue a k i columns count sets) x y h g)
+          (with-same fl (slotPlace k n i) (slotValue a k i columns count sets) x y h g)
 
-  slot-read : (functionAt a (3 * k + i) ≡ 255 → ⊥) → placeIn k n + 1 + i < roomOf (length fl)
-      → readAt (slotFiled a k n i columns count sets fl) (placeIn k n + 1 + i) ≡ slotValue a k i columns count sets
+  slot-read : (functionAt a (3 * k + i) ≡ 255 → ⊥) → slotPlace k n i < roomOf (length fl)
+      → readAt (slotFiled a k n i columns count sets fl) (slotPlace k n i) ≡ slotValue a k i columns count sets
   slot-read e h =
-      ap (λ l. readAt l (placeIn k n + 1 + i)) (slot-some a k n i columns count sets fl e)
-      ∙ with-read fl (placeIn k n + 1 + i) (slotValue a k i columns count sets) h
+      ap (λ l. readAt l (slotPlace k n i)) (slot-some a k n i columns count sets fl e)
+      ∙ with-read fl (slotPlace k n i) (slotValue a k i columns count sets) h
 
-  slot-other : (q : ℕ) → (q ≡ placeIn k n + 1 + i → ⊥)
+  slot-other : (q : ℕ) → (q ≡ slotPlace k n i → ⊥)
       → readAt (slotFiled a k n i columns count sets fl) q ≡ readAt fl q
   slot-other q h =
-      same-read (2 * (placeIn k n + 1 + i)) (2 * (placeIn k n + 1 + i) + 2) fl
-      (slotFiled a k n i columns count sets fl) q
-      (slot-same (2 * (placeIn k n + 1 + i)) (2 * (placeIn k n + 1 + i) + 2) (omega arith) (omega arith))
-      (⊎-elim (λ x. inl (omega arith)) (λ x. inr (omega arith)) (le-or (suc q) (placeIn k n + 1 + i)))
+      same-read (2 * slotPlace k n i) (2 * slotPlace k n i + 2) fl (slotFiled a k n i columns count sets fl) q
+      (slot-same (2 * slotPlace k n i) (2 * slotPlace k n i + 2) (omega arith) (omega arith))
+      (⊎-elim (λ x. inl (omega arith)) (λ x. inr (omega arith)) (le-or (suc q) (slotPlace k n i)))
 
 -- what a slot asks for
 pub slot-told : (a : Asked) (k i columns count : ℕ) (sets : List ℤ) (v : Value)
@@ -289,118 +289,121 @@ module _ (a : Asked) (k n columns count : ℕ) (mark : Value) (sets fl : List �
   three = slotFiled a k n 2 columns count sets two
 
   abbrev from : ℕ
-  from = 2 * placeIn k n
+  from = wordsBefore k
 
-  slots-same : Same from (from + 8) fl three
-  slots-same =
-      same-then from (from + 8) fl two three
-      (same-then from (from + 8) fl one two
-      (slot-same a k n 0 columns count sets fl from (from + 8) (omega arith) (omega arith))
-      (slot-same a k n 1 columns count sets one from (from + 8) (omega arith) (omega arith)))
-      (slot-same a k n 2 columns count sets two from (from + 8) (omega arith) (omega arith))
+  abbrev to : ℕ
+  to = wordsBefore k + 2048
 
-  whole : n < 256 → filed a k n columns count mark sets fl ≡ wordsWith three (placeIn k n) mark
+  one-same : n < 256 → Same from to fl one
+  one-same h = slot-same a k n 0 columns count sets fl from to (omega arith) (omega arith)
+
+  two-same : n < 256 → Same from to fl two
+  two-same h =
+      same-then from to fl one two (one-same h)
+      (slot-same a k n 1 columns count sets one from to (omega arith) (omega arith))
+
+  three-same : n < 256 → Same from to fl three
+  three-same h =
+      same-then from to fl two three (two-same h)
+      (slot-same a k n 2 columns count sets two from to (omega arith) (omega arith))
+
+  whole : n < 256 → filed a k n columns count mark sets fl ≡ wordsWith three (markPlace k n) mark
   whole h =
       group-in a k n columns count mark sets fl h
-      ∙ ap (λ l. wordsWith l (placeIn k n) mark) (slotsFiled-is a k n columns count mark sets fl)
+      ∙ ap (λ l. wordsWith l (markPlace k n) mark) (slotsFiled-is a k n columns count mark sets fl)
 
-  filed-same : Same from (from + 8) fl (filed a k n columns count mark sets fl)
+  -- the words outside the block's region are as they were
+  filed-same : Same from to fl (filed a k n columns count mark sets fl)
   filed-same = ⊎-elim inside past (le-or (suc n) 256)
     where
-      inside : n < 256 → Same from (from + 8) fl (filed a k n columns count mark sets fl)
+      inside : n < 256 → Same from to fl (filed a k n columns count mark sets fl)
       inside h =
-          subst (Same from (from + 8) fl) (sym (whole h))
-          (same-then from (from + 8) fl three (wordsWith three (placeIn k n) mark) slots-same
-          (with-same three (placeIn k n) mark from (from + 8) (omega arith) (omega arith)))
+          subst (Same from to fl) (sym (whole h))
+          (same-then from to fl three (wordsWith three (markPlace k n) mark) (three-same h)
+          (with-same three (markPlace k n) mark from to (omega arith) (omega arith)))
 
-      past : 256 < suc n → Same from (from + 8) fl (filed a k n columns count mark sets fl)
+      past : 256 < suc n → Same from to fl (filed a k n columns count mark sets fl)
       past h =
-          subst (Same from (from + 8) fl) (sym (group-past a k n columns count mark sets fl (omega arith)))
-          (same-self from (from + 8) fl)
+          subst (Same from to fl) (sym (group-past a k n columns count mark sets fl (omega arith)))
+          (same-self from to fl)
 
   pub filed-length : length (filed a k n columns count mark sets fl) ≡ length fl
   filed-length = filed-same .long
+
+  -- and so is the value at a place that is neither the mark's nor one of the three slots'
+  abbrev Apart : ℕ → Type 0
+  Apart q = (q ≡ markPlace k n → ⊥) × ((i : ℕ) → i < 3 → q ≡ slotPlace k n i → ⊥)
+
+  filed-apart : (q : ℕ) → (n < 256 → Apart q) → readAt (filed a k n columns count mark sets fl) q ≡ readAt fl q
+  filed-apart q d = ⊎-elim (λ h. inside h (d h)) past (le-or (suc n) 256)
+    where
+      inside : n < 256 → Apart q → readAt (filed a k n columns count mark sets fl) q ≡ readAt fl q
+      inside h d =
+          ap (λ l. readAt l q) (whole h) ∙ with-other three (markPlace k n) mark q (d .0)
+          ∙ slot-other a k n 2 columns count sets two q (d .1 2 (omega arith))
+          ∙ slot-other a k n 1 columns count sets one q (d .1 1 (omega arith))
+          ∙ slot-other a k n 0 columns count sets fl q (d .1 0 (omega arith))
+
+      past : 256 < suc n → readAt (filed a k n columns count mark sets fl) q ≡ readAt fl q
+      past h = ap (λ l. readAt l q) (group-past a k n columns count mark sets fl (omega arith))
 
   -- every other group of the block tells what it told
   pub filed-other : (m : ℕ) → (m ≡ n → ⊥)
       → (isFiled (filed a k n columns count mark sets fl) k m ≡ isFiled fl k m)
       × ((i : ℕ) → i < 3
-      → readAt (filed a k n columns count mark sets fl) (placeIn k m + 1 + i) ≡ readAt fl (placeIn k m + 1 + i))
-      × (readAt (filed a k n columns count mark sets fl) (placeIn k m) ≡ readAt fl (placeIn k m))
-  filed-other m h = (
-    filed-agree fl (filed a k n columns count mark sets fl) k m (value (placeIn k m) apart),
-    read,
-    value (placeIn k m) apart,
-  )
+      → readAt (filed a k n columns count mark sets fl) (slotPlace k m i) ≡ readAt fl (slotPlace k m i))
+      × (m < 256 → readAt (filed a k n columns count mark sets fl) (markPlace k m) ≡ readAt fl (markPlace k m))
+  filed-other m h = (⊎-elim inside past (le-or (suc m) 256), read, marked)
     where
-      value : (q : ℕ) → (2 * q + 1 < from) ⊎ (from + 8 ≤ 2 * q)
-          → readAt (filed a k n columns count mark sets fl) q ≡ readAt fl q
-      value q d = same-read from (from + 8) fl (filed a k n columns count mark sets fl) q filed-same d
-
-      apart : (2 * placeIn k m + 1 < from) ⊎ (from + 8 ≤ 2 * placeIn k m)
-      apart = ⊎-elim (λ x. inl (omega arith)) (λ x. inr (omega arith)) (le-or (suc m) n)
+      marked : m < 256 → readAt (filed a k n columns count mark sets fl) (markPlace k m) ≡ readAt fl (markPlace k m)
+      marked l = filed-apart (markPlace k m) (λ g. (λ e. h (omega arith), λ i d e. omega arith))
 
       read : (i : ℕ) → i < 3
-          → readAt (filed a k n columns count mark sets fl) (placeIn k m + 1 + i) ≡ readAt fl (placeIn k m + 1 + i)
-      read i g =
-          value (placeIn k m + 1 + i)
-          (⊎-elim (λ x. inl (omega arith)) (λ x. inr (omega arith)) (le-or (suc m) n))
+          → readAt (filed a k n columns count mark sets fl) (slotPlace k m i) ≡ readAt fl (slotPlace k m i)
+      read i l = filed-apart (slotPlace k m i) (λ g. (λ e. omega arith, λ j d e. h (omega arith)))
+
+      inside : m < 256 → isFiled (filed a k n columns count mark sets fl) k m ≡ isFiled fl k m
+      inside l = filed-agree fl (filed a k n columns count mark sets fl) k m (marked l)
+
+      past : 256 < suc m → isFiled (filed a k n columns count mark sets fl) k m ≡ isFiled fl k m
+      past l =
+          filed-past (filed a k n columns count mark sets fl) k m (omega arith)
+          ∙ sym (filed-past fl k m (omega arith))
 
   -- and so does every other block
   pub filed-region : (j : ℕ) → 1 ≤ k → 1 ≤ j → (j ≡ k → ⊥) → region j (filed a k n columns count mark sets fl) ≡ region
       j fl
-  filed-region j h g d = ⊎-elim inside past (le-or (suc n) 256)
-    where
-      inside : n < 256 → region j (filed a k n columns count mark sets fl) ≡ region j fl
-      inside i =
-          same-region from (from + 8) fl (filed a k n columns count mark sets fl) j filed-same
-          (⊎-elim (λ x. inl (omega arith)) (λ x. inr (omega arith)) (le-or j k))
-
-      past : 256 < suc n → region j (filed a k n columns count mark sets fl) ≡ region j fl
-      past i = ap (region j) (group-past a k n columns count mark sets fl (omega arith))
+  filed-region j h g d =
+      same-region from to fl (filed a k n columns count mark sets fl) j filed-same
+      (⊎-elim (λ x. inl (omega arith)) (λ x. inr (omega arith)) (le-or j k))
 
   -- the group itself is filled, and tells what the block's slots ask for
   module _ (long : length fl ≡ 8192) (few : k ≤ 4) (h : n < 256) where
-    three-long : length three ≡ 8192
-    three-long = slots-same .long ∙ long
-
-    pub filed-mark : readAt (filed a k n columns count mark sets fl) (placeIn k n) ≡ mark
+    pub filed-mark : readAt (filed a k n columns count mark sets fl) (markPlace k n) ≡ mark
     filed-mark =
-        ap (λ l. readAt l (placeIn k n)) (whole h)
-        ∙ with-read three (placeIn k n) mark (omega (arith, three-long))
+        ap (λ l. readAt l (markPlace k n)) (whole h)
+        ∙ with-read three (markPlace k n) mark (omega (arith, three-same h .long ∙ long))
 
     pub filed-marked : isFiled (filed a k n columns count mark sets fl) k n ≡ leZ (pos 1) (mark .num)
     filed-marked =
         filed-in (filed a k n columns count mark sets fl) k n h
         ∙ ap (λ (v : Value). leZ (pos 1) (v .num)) filed-mark
 
-    last : (q : ℕ) → placeIn k n < q → readAt (filed a k n columns count mark sets fl) q ≡ readAt three q
-    last q g =
-        ap (λ l. readAt l q) (whole h)
-        ∙ same-read (2 * placeIn k n) (2 * placeIn k n + 2) three (wordsWith three (placeIn k n) mark) q
-        (with-same three (placeIn k n) mark (2 * placeIn k n) (2 * placeIn k n + 2) (omega arith) (omega arith))
-        (inr (omega arith))
-
     pub filed-slot : (i : ℕ) → i < 3 → (functionAt a (3 * k + i) ≡ 255 → ⊥)
-        → readAt (filed a k n columns count mark sets fl) (placeIn k n + 1 + i) ≡ slotValue a k i columns count sets
-    filed-slot i g e = last (placeIn k n + 1 + i) (omega arith) ∙ go i g e
+        → readAt (filed a k n columns count mark sets fl) (slotPlace k n i) ≡ slotValue a k i columns count sets
+    filed-slot i g e =
+        ap (λ l. readAt l (slotPlace k n i)) (whole h)
+        ∙ with-other three (markPlace k n) mark (slotPlace k n i) (λ x. omega arith) ∙ go i g e
       where
-        one-long : length one ≡ 8192
-        one-long =
-            slot-same a k n 0 columns count sets fl from (from + 8) (omega arith) (omega arith) .long ∙ long
-
-        two-long : length two ≡ 8192
-        two-long =
-            slot-same a k n 1 columns count sets one from (from + 8) (omega arith) (omega arith) .long ∙ one-long
-
         go : (i : ℕ) → i < 3 → (functionAt a (3 * k + i) ≡ 255 → ⊥)
-            → readAt three (placeIn k n + 1 + i) ≡ slotValue a k i columns count sets
+            → readAt three (slotPlace k n i) ≡ slotValue a k i columns count sets
         go zero g e =
-            slot-other a k n 2 columns count sets two (placeIn k n + 1 + 0) (λ x. omega arith)
-            ∙ slot-other a k n 1 columns count sets one (placeIn k n + 1 + 0) (λ x. omega arith)
+            slot-other a k n 2 columns count sets two (slotPlace k n 0) (λ x. omega arith)
+            ∙ slot-other a k n 1 columns count sets one (slotPlace k n 0) (λ x. omega arith)
             ∙ slot-read a k n 0 columns count sets fl e (omega arith)
         go (suc zero) g e =
-            slot-other a k n 2 columns count sets two (placeIn k n + 1 + 1) (λ x. omega arith)
-            ∙ slot-read a k n 1 columns count sets one e (omega (arith, one-long))
-        go (suc (suc zero)) g e = slot-read a k n 2 columns count sets two e (omega (arith, two-long))
+            slot-other a k n 2 columns count sets two (slotPlace k n 1) (λ x. omega arith)
+            ∙ slot-read a k n 1 columns count sets one e (omega (arith, one-same h .long ∙ long))
+        go (suc (suc zero)) g e =
+            slot-read a k n 2 columns count sets two e (omega (arith, two-same h .long ∙ long))
         go (suc (suc (suc i))) g e = absurd (omega arith)

@@ -11,7 +11,7 @@ use lib.Signed.{mag, ltZ, leZ, nonNeg}
 use mir.Facts.{toZ-ofZ, toZ-pos}
 use mir.Syntax.{w64}
 use mir.Val.{SFits, Fits, ofZ, toZ}
-use Rattle.groups.specs.Groups.{placeIn}
+use Rattle.groups.specs.Groups.{markPlace}
 use Rattle.model.proofs.Files.{equalZ-eq}
 use Rattle.model.specs.Tables.{natOf}
 use Rattle.model.specs.Value.{compareZ, equalZ}
@@ -129,26 +129,26 @@ module _ (fl : List ℤ) (k : ℕ) (z : ℤ) where
   unfolding recallIn
   recall-group = refl
 
-  pub recall-trials : recallIn fl k z .trials ≡ natOf (readAt fl (placeIn k (keyGroup z)) .num) - 1
+  pub recall-trials : recallIn fl k z .trials ≡ natOf (readAt fl (markPlace k (keyGroup z)) .num) - 1
   unfolding recallIn
   recall-trials = refl
 
   pub recall-known : recallIn fl k z .known ≡ true
-      → (isFiled fl k (keyGroup z) ≡ true) × (readAt fl (placeIn k (keyGroup z)) .den ≡ z)
+      → (isFiled fl k (keyGroup z) ≡ true) × (readAt fl (markPlace k (keyGroup z)) .den ≡ z)
   unfolding recallIn
   recall-known e =
-      let mark = readAt fl (placeIn k (keyGroup z)) in
+      let mark = readAt fl (markPlace k (keyGroup z)) in
       let h = both (leZ (pos 1) (mark .num)) (equalZ (mark .den) z) e in
       (filed-in fl k (keyGroup z) (key-small z) ∙ h .0, equalZ-eq (mark .den) z (h .1))
 
   -- as calls tell it, to which the value is handed as y
-  pub recall-is : (y : ℤ) (g p t : ℕ) (v : Value) (m s : Bool) → y ≡ z → g ≡ keyGroup y → p ≡ placeIn k g
+  pub recall-is : (y : ℤ) (g p t : ℕ) (v : Value) (m s : Bool) → y ≡ z → g ≡ keyGroup y → p ≡ markPlace k g
       → v ≡ readAt fl p → m ≡ leZ (pos 1) (v .num) → s ≡ equalZ (v .den) y → t ≡ natOf (v .num) - 1
       → record { group = g; known = m && s; trials = t } ≡ recallIn fl k z
   unfolding recallIn
   recall-is y g p t v m s i a b c d e f =
-      let whole : recallBy v z g ≡ recallBy (readAt fl (placeIn k (keyGroup z))) z (keyGroup z) =
-      ap₂ (λ w n. recallBy w z n) (c ∙ ap (readAt fl) (b ∙ ap (placeIn k) here)) here in
+      let whole : recallBy v z g ≡ recallBy (readAt fl (markPlace k (keyGroup z))) z (keyGroup z) =
+      ap₂ (λ w n. recallBy w z n) (c ∙ ap (readAt fl) (b ∙ ap (markPlace k) here)) here in
       rw (d, e, f, i) whole
     where
       here : g ≡ keyGroup z

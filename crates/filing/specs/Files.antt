@@ -1,8 +1,10 @@
--- The files in words. Block k's region is the 1,024 values from place 1024 * (k - 1) on, in 256 groups of four: a mark,
--- whose numerator is at least 1 where the group is filled, and one value for each of the block's three slots.
+-- The files in words. Block k's region is the 1,024 values from place 1024 * (k - 1) on, and tells of 256 groups: first
+-- their marks, one after the other, then the values of their slots, three for each group. A group is filled where the
+-- numerator of its mark is at least 1, so that a group is made empty by zeroing its mark alone.
 --   isFiled fl k n             group n of block k is filled: its mark is at least 1
---   wordsBefore k              the words before the region of block k; wordsIn n: the words of n groups, 256 at most
---   emptied k n fl             the first n groups of block k made zero, fl itself where the words end before
+--   wordsBefore k              the words before the region of block k; wordsIn n: those of n marks, 256 at most
+--   emptied k n fl             the marks of the first n groups of block k made zero, fl itself where the words end
+--                              before
 --   told g                     the value of aggregate g, 0/0 where there is none
 --   slotValue a k i m n s      what slot i of block k asks for, of the set of n rows and m columns in the words s
 --   slotFiled a k g i m n s fl that value put into slot i of group g, fl itself where the slot asks for nothing
@@ -17,7 +19,7 @@ use lib.IntN.{ℤ, pos}
 use lib.ListN.{length, take, drop}
 use lib.Signed.{leZ}
 use Rattle.groups.specs.Asking.{functionAt, columnAt}
-use Rattle.groups.specs.Groups.{placeIn}
+use Rattle.groups.specs.Groups.{markPlace, slotPlace}
 use Rattle.groups.specs.declared.Asked.{Asked}
 use Rattle.rows.specs.Columns.{aggregateIn}
 use Rattle.rows.specs.Words.{readAt, wordsWith, wordsZeroed}
@@ -26,13 +28,13 @@ use Rattle.rows.specs.declared.Aggregate.the-variants.{Of, Outside, Refused}
 use Rattle.value.specs.declared.Value.{Value}
 
 unfoldable pub isFiled : List ℤ → ℕ → ℕ → Bool
-isFiled fl k n = cond (ltb n 256) (leZ (pos 1) (readAt fl (placeIn k n) .num)) false
+isFiled fl k n = cond (ltb n 256) (leZ (pos 1) (readAt fl (markPlace k n) .num)) false
 
 abbrev pub wordsBefore : ℕ → ℕ
 wordsBefore k = 2048 * (k - 1)
 
 abbrev pub wordsIn : ℕ → ℕ
-wordsIn n = 8 * min n 256
+wordsIn n = 2 * min n 256
 
 unfoldable pub emptied : ℕ → ℕ → List ℤ → List ℤ
 emptied k n fl =
@@ -52,7 +54,7 @@ slotValue a k i columns count sets =
 unfoldable pub slotFiled : Asked → (k n i columns count : ℕ) → List ℤ → List ℤ → List ℤ
 slotFiled a k n i columns count sets fl =
     cond (eqb (functionAt a (3 * k + i)) 255) fl
-    (wordsWith fl (placeIn k n + 1 + i) (slotValue a k i columns count sets))
+    (wordsWith fl (slotPlace k n i) (slotValue a k i columns count sets))
 
 unfoldable pub slotsFiled : Asked → (k n columns count : ℕ) → List ℤ → List ℤ → List ℤ
 slotsFiled a k n columns count sets fl =
@@ -61,7 +63,7 @@ slotsFiled a k n columns count sets fl =
 
 unfoldable pub filed : Asked → (k n columns count : ℕ) → Value → List ℤ → List ℤ → List ℤ
 filed a k n columns count mark sets fl =
-    cond (ltb n 256) (wordsWith (slotsFiled a k n columns count sets fl) (placeIn k n) mark) fl
+    cond (ltb n 256) (wordsWith (slotsFiled a k n columns count sets fl) (markPlace k n) mark) fl
 
 unfoldable pub region : ℕ → List ℤ → List ℤ
 region k fl = take 2048 (drop (wordsBefore k) fl)

@@ -1,7 +1,8 @@
 // Which aggregates a question asks of its blocks, and the files that tell their values (01, "work buffer": 8,192 words
 // for aggregate files). A block's file has 256 groups; a group is filled from a set of the block's rows, and then tells
-// the aggregates of that set. Every function takes every number: a group past 255 has no values, and what the words
-// have no room for is not written.
+// the aggregates of that set. The marks of the groups lie before the values of their slots, so that groups are made
+// empty by zeroing the marks alone. Every function takes every number: a group past 255 has no values, and what the
+// words have no room for is not written.
 mod memo;
 mod slots;
 mod walk;
@@ -44,10 +45,10 @@ pub fn is_filed(files: &[i64], block: u8, group: usize) -> bool
     if group >= 256 {
         return false;
     }
-    slots::marked(rows::read(files, slots::place_in(block, group)))
+    slots::marked(rows::read(files, slots::mark_place(block, group)))
 }
 
-// The first groups of a block made empty, if the words have room for them.
+// The first groups of a block made empty, by zeroing their marks, if the words have room for these.
 pub fn empty_file(files: &mut [i64], block: u8, groups: usize)
     ensures { λ _. ⌜ now (files .exit) ≡ emptied block groups (now (files .entry)) ⌝ }
 {
@@ -78,7 +79,7 @@ pub fn file_group(
     slots::file_slot(files, a, block, group, 0, sets, columns, count);
     slots::file_slot(files, a, block, group, 1, sets, columns, count);
     slots::file_slot(files, a, block, group, 2, sets, columns, count);
-    rows::write(files, slots::place_in(block, group), mark);
+    rows::write(files, slots::mark_place(block, group), mark);
 }
 
 // ---- evaluations remembered
@@ -88,7 +89,7 @@ pub fn recall(files: &[i64], block: u8, key: i64) -> Memory
     ensures { λ r. ⌜ r ≡ recallIn (now (files .entry)) block key ⌝ }
 {
     let group = memo::key_group(key);
-    let mark = rows::read(files, slots::place_in(block, group));
+    let mark = rows::read(files, slots::mark_place(block, group));
     Memory {
         group: group,
         known: slots::marked(mark) & memo::has_key(mark, key),

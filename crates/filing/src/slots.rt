@@ -1,4 +1,4 @@
-// The places of a block's groups in the files, and one slot of a group filled.
+// The places of a block's marks and slots in the files, and one slot of a group filled.
 use crate::walk::size;
 use groups::Asked;
 use rows::Aggregate;
@@ -8,7 +8,7 @@ ghost use Prim.Native.Nat.{_-_, _<_, _≤_};
 ghost use lib.IntN.{pos};
 ghost use lib.Signed.{leZ};
 ghost use Rattle.groups.specs.Asking.{functionAt, columnAt};
-ghost use Rattle.groups.specs.Groups.{placeIn};
+ghost use Rattle.groups.specs.Groups.{markPlace, slotPlace};
 ghost use Rattle.filing.specs.Files.{wordsIn, told, slotFiled};
 
 // How many regions lie before that of a block; block 0 has that of block 1.
@@ -22,21 +22,29 @@ pub(crate) fn regions_before(block: u8) -> usize
 }
 
 // The place of the mark of a block's group.
-pub(crate) fn place_in(block: u8, group: usize) -> usize
+pub(crate) fn mark_place(block: u8, group: usize) -> usize
     requires { ⌜ group < 256 ⌝ }
-    ensures { λ r. ⌜ (r ≡ placeIn block group) × (r < 1000000) ⌝ }
+    ensures { λ r. ⌜ r ≡ markPlace block group ⌝ }
 {
-    1024 * regions_before(block) + 4 * group
+    1024 * regions_before(block) + group
 }
 
-// The words of a number of groups, 256 at most.
+// The place of a slot of a block's group: those of all groups follow the 256 marks.
+pub(crate) fn slot_place(block: u8, group: usize, slot: usize) -> usize
+    requires { ⌜ (group < 256) × (slot < 3) ⌝ }
+    ensures { λ r. ⌜ r ≡ slotPlace block group slot ⌝ }
+{
+    1024 * regions_before(block) + 256 + 3 * group + slot
+}
+
+// The words of the marks of a number of groups, 256 at most.
 pub(crate) fn words_in(groups: usize) -> usize
-    ensures { λ r. ⌜ (r ≡ wordsIn groups) × (r ≤ 2048) ⌝ }
+    ensures { λ r. ⌜ (r ≡ wordsIn groups) × (r ≤ 512) ⌝ }
 {
     if groups < 256 {
-        return 8 * groups;
+        return 2 * groups;
     }
-    2048
+    512
 }
 
 // Whether a mark tells that its group is filled.
@@ -97,5 +105,5 @@ pub(crate) fn file_slot(
         return;
     }
     let v = told_by(rows::aggregate_of(sets, n, count, function, size(column_at(a, j))));
-    rows::write(files, place_in(block, group) + 1 + i, v);
+    rows::write(files, slot_place(block, group, i), v);
 }

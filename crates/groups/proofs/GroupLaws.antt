@@ -13,7 +13,7 @@ use Rattle.rows.specs.Words.{readAt}
 use Rattle.syntax.proofs.Laws.{both}
 use Rattle.value.specs.declared.Value.{Value}
 use Rattle.groups.specs.Asking.{asking, functionAt, columnAt, asksAt, slotOf}
-use Rattle.groups.specs.Groups.{grouping, groupOf, placeIn, aggregateAt}
+use Rattle.groups.specs.Groups.{grouping, groupOf, slotPlace, aggregateAt}
 use Rattle.groups.specs.declared.Asked.{Asked}
 use Rattle.groups.specs.declared.Groups.{Groups}
 
@@ -86,10 +86,10 @@ told n m e = let b = both (ltb n 256) (ltb m 3) e in (ltb-true n 256 (b .0), ltb
 
 -- the value that a group tells, and zero where it tells none
 module _ (a : Asked) (fl : List ℤ) (g : Groups) (f k c : ℕ) where
-  pub aggregate-told : (n m p : ℕ) (v : Value) → n ≡ groupOf g k → m ≡ slotOf a k f c → p ≡ placeIn k n
-      → ltb n 256 && ltb m 3 ≡ true → v ≡ readAt fl (p + 1 + m) → v ≡ aggregateAt a fl g f k c
+  pub aggregate-told : (n m p : ℕ) (v : Value) → n ≡ groupOf g k → m ≡ slotOf a k f c → p ≡ slotPlace k n m
+      → ltb n 256 && ltb m 3 ≡ true → v ≡ readAt fl p → v ≡ aggregateAt a fl g f k c
   unfolding aggregateAt
-  aggregate-told n m p v dn dm dp e h = rw (sym dn, sym dm, e) (h ∙ ap (λ x. readAt fl (x + 1 + m)) dp)
+  aggregate-told n m p v dn dm dp e h = rw (sym dn, sym dm, e) (h ∙ ap (readAt fl) dp)
 
   pub aggregate-none : (n m : ℕ) → n ≡ groupOf g k → m ≡ slotOf a k f c → ltb n 256 && ltb m 3 ≡ false
       → record { num = pos 0; den = pos 1 } ≡ aggregateAt a fl g f k c

@@ -1,8 +1,10 @@
 -- Where the aggregates of a block lie in the files: block k has the region of 1,024 values before which k - 1 others
--- lie, in groups of four: a mark, and one value for each slot.
+-- lie. A region tells of 256 groups: first their marks, one after the other, then the values of their slots, three for
+-- each group.
 --   grouping gs                the groups gs of the blocks
 --   groupOf g k                the group that tells of block k, 256 past the fifth
---   placeIn k n                the place of the mark of group n of block k; the values of its slots follow
+--   markPlace k n              the place of the mark of group n of block k
+--   slotPlace k n i            the place of the value of its slot i
 --   aggregateAt a fl g f k c   function f of column c of block k's set, as its group tells; zero where there is none
 use Prim.Native.Nat.{ℕ, _+_, _*_, _-_}
 use mathlib.Core.Bool.{Bool, _&&_, cond}
@@ -22,11 +24,14 @@ grouping gs = record { at = gs }
 abbrev pub groupOf : Groups → ℕ → ℕ
 groupOf g k = getD (g .at) k 256
 
-abbrev pub placeIn : ℕ → ℕ → ℕ
-placeIn k n = 1024 * (k - 1) + 4 * n
+abbrev pub markPlace : ℕ → ℕ → ℕ
+markPlace k n = 1024 * (k - 1) + n
+
+abbrev pub slotPlace : ℕ → ℕ → ℕ → ℕ
+slotPlace k n i = 1024 * (k - 1) + 256 + 3 * n + i
 
 unfoldable pub aggregateAt : Asked → List ℤ → Groups → ℕ → ℕ → ℕ → Value
 aggregateAt a fl g f k c =
     cond (ltb (groupOf g k) 256 && ltb (slotOf a k f c) 3)
-    (readAt fl (placeIn k (groupOf g k) + 1 + slotOf a k f c))
+    (readAt fl (slotPlace k (groupOf g k) (slotOf a k f c)))
     (record { num = pos 0; den = pos 1 })

@@ -1,13 +1,13 @@
 // The aggregate files (01, "work buffer": 8,192 words for aggregate files): for each of blocks 1 to 4 a region of 256
-// groups, a group of 4 values: a mark and the three aggregates that may name the block. Which aggregates these are is
-// told by the question, once. Every function takes every number: a group past 255 has no values, and there an aggregate
-// is zero, as of an empty set.
+// groups, a group being a mark and the three aggregates that may name the block; the marks of all groups lie first, and
+// the aggregates follow, three for each group. Which aggregates these are is told by the question, once. Every function
+// takes every number: a group past 255 has no values, and there an aggregate is zero, as of an empty set.
 use value::Value;
 ghost use Prim.Native.Nat.{_<_};
 ghost use mathlib.Core.Path.{_≡_};
 ghost use lib.ListN.{length};
 ghost use Rattle.groups.specs.Asking.{asking, Slots, asksAt, slotOf};
-ghost use Rattle.groups.specs.Groups.{grouping, placeIn, aggregateAt};
+ghost use Rattle.groups.specs.Groups.{grouping, slotPlace, aggregateAt};
 
 // The aggregates that name each of the five blocks: function and column, three slots for a block, 255 where none is.
 pub struct Asked {
@@ -82,15 +82,16 @@ pub fn slot_of(a: Asked, block: u8, function: u8, column: u8) -> usize
     3
 }
 
-// The place of a block's group among the values of the files: region block - 1, block 0 having that of block 1.
-fn place_in(block: u8, group: usize) -> usize
-    requires { ⌜ group < 256 ⌝ }
-    ensures { λ r. ⌜ (r ≡ placeIn block group) × (r < 1000000) ⌝ }
+// The place of a slot of a block's group among the values of the files: region block - 1, block 0 having that of
+// block 1, and there after the marks of the 256 groups.
+fn slot_place(block: u8, group: usize, slot: usize) -> usize
+    requires { ⌜ (group < 256) × (slot < 3) ⌝ }
+    ensures { λ r. ⌜ r ≡ slotPlace block group slot ⌝ }
 {
     if block == 0 {
-        return 4 * group;
+        return 256 + 3 * group + slot;
     }
-    1024 * (wide(block) - 1) + 4 * group
+    1024 * (wide(block) - 1) + 256 + 3 * group + slot
 }
 
 // The function of a column of a block's set, as the block's group tells it: functions and columns are what the
@@ -114,7 +115,7 @@ pub fn aggregate_in<'a>(
         let group = groups[k];
         let slot = slot_among(functions, columns, k, function, column);
         if (group < 256) & (slot < 3) {
-            return rows::read(files, place_in(block, group) + 1 + slot);
+            return rows::read(files, slot_place(block, group, slot));
         }
     }
     Value { num: 0, den: 1 }

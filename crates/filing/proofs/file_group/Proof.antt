@@ -22,8 +22,8 @@ file-slot-requires-2 c κs = search needs
 file-slot-requires-3 : tie.Need-file-slot-requires-3
 file-slot-requires-3 c κs = search needs
 
-place-in-requires : tie.Need-place-in-requires
-place-in-requires c κs = search needs
+mark-place-requires : tie.Need-mark-place-requires
+mark-place-requires c κs = search needs
 
 write-requires : tie.Need-write-requires
 write-requires c κs = search needs
@@ -41,8 +41,8 @@ returns-2 c =
     let given = first .before .before .before .args in
     group-put (given .a) (given .block) (given .group) (given .columns) (given .count) (given .mark) (given .sets .now)
     (given .files .now) (first .file-slot .last .0) (second .file-slot2 .last .0) (third .file-slot3 .last .0)
-    (written .write .last .0) (placed .place-in .result) (omega arith) (first .file-slot .ensures)
-    (second .file-slot2 .ensures) (third .file-slot3 .ensures) (placed .place-in .ensures .0)
+    (written .write .last .0) (placed .mark-place .result) (omega arith) (first .file-slot .ensures)
+    (second .file-slot2 .ensures) (third .file-slot3 .ensures) (placed .mark-place .ensures)
     (written .write .ensures .1)
 
 pub file-group-spec : {M : Type 1} → statement M
@@ -53,7 +53,7 @@ file-group-spec =
     file-slot-requires
     file-slot-requires-2
     file-slot-requires-3
-    place-in-requires
+    mark-place-requires
     write-requires
     same-length
     returns-2)

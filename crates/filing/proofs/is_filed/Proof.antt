@@ -14,8 +14,8 @@ returns : tie.Need-returns
 returns c =
     let given = c .before .args in sym (filed-past (given .files .now) (given .block) (given .group) (omega arith))
 
-place-in-requires : tie.Need-place-in-requires
-place-in-requires c κs = search needs
+mark-place-requires : tie.Need-mark-place-requires
+mark-place-requires c κs = search needs
 
 read-requires : tie.Need-read-requires
 read-requires c κs = search needs
@@ -29,9 +29,9 @@ returns-2 c =
     let given = found .before .before .args in
     c .marked .ensures
     ∙ ap (λ (v : Value). leZ (pos 1) (v .num))
-    (c .before .read .ensures ∙ ap (readAt (given .files .now)) (found .place-in .ensures .0))
+    (c .before .read .ensures ∙ ap (readAt (given .files .now)) (found .mark-place .ensures))
     ∙ sym (filed-in (given .files .now) (given .block) (given .group) (omega arith))
 
 pub is-filed-spec : {M : Type 1} → statement M
 is-filed-spec =
-    tie.close (tie.spec returns place-in-requires read-requires marked-requires returns-2)
+    tie.close (tie.spec returns mark-place-requires read-requires marked-requires returns-2)

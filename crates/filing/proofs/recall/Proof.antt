@@ -12,8 +12,8 @@ use Rattle.filing.proofs.recall.Tie as tie
 key-group-requires : tie.Need-key-group-requires
 key-group-requires c κs = search needs
 
-place-in-requires : tie.Need-place-in-requires
-place-in-requires c κs = search needs
+mark-place-requires : tie.Need-mark-place-requires
+mark-place-requires c κs = search needs
 
 read-requires : tie.Need-read-requires
 read-requires c κs = search needs
@@ -41,9 +41,9 @@ returns c =
     let start = grouped .before in
     let given = start .args in
     recall-is (given .files .now) (given .block) (given .key) (toZ w64 (ofZ w64 (given .key)))
-    (grouped .key-group .result) (placed .place-in .result) (c .less-one .result) (read .read .result)
+    (grouped .key-group .result) (placed .mark-place .result) (c .less-one .result) (read .read .result)
     (marked .marked .result) (shared .has-key .result) (back (given .key) (start .fits .key .sfits))
-    (grouped .key-group .ensures .0) (placed .place-in .ensures .0) (read .read .ensures) (marked .marked .ensures)
+    (grouped .key-group .ensures .0) (placed .mark-place .ensures) (read .read .ensures) (marked .marked .ensures)
     (shared .has-key .ensures) (c .less-one .ensures ∙ ap (λ n. n - 1) (counted .count-in .ensures))
 
 pub recall-spec : {M : Type 1} → statement M
@@ -51,7 +51,7 @@ recall-spec =
     tie.close
     (tie.spec
     key-group-requires
-    place-in-requires
+    mark-place-requires
     read-requires
     marked-requires
     has-key-requires

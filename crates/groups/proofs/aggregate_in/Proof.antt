@@ -21,18 +21,8 @@ element-copy-out-group c = search needs
 slot-among-requires : tie.Need-slot-among-requires
 slot-among-requires c κs = search needs
 
-place-in-requires : tie.Need-place-in-requires
-place-in-requires c κs = told _ (c .before .slot-among .result) (c .if2 .taken) .0
-
-add-read : tie.Need-add-read
-add-read c = search needs
-
-add-read-2 : tie.Need-add-read-2
-add-read-2 c =
-    let a = c .before .before .before .before .before .before .args in
-    let n = getD (a .groups .now) (c .before .before .before .before .before .wide .result) 0 in
-    let t = told n (c .before .before .slot-among .result) (c .before .if2 .taken) in
-    omega (arith, c .place-in .ensures .1)
+slot-place-requires : tie.Need-slot-place-requires
+slot-place-requires c κs = told _ (c .before .slot-among .result) (c .if2 .taken)
 
 read-requires : tie.Need-read-requires
 read-requires c κs = search needs
@@ -45,9 +35,9 @@ returns c h e =
     let gs = a .groups .now in
     let q = asking (a .functions .now) (a .columns .now) in
     aggregate-told q (a .files .now) (grouping gs) (a .function) (a .block) (a .column) (getD gs (w .result) 0)
-    (s .result) (c .before .place-in .result) (c .read .result)
+    (s .result) (c .before .slot-place .result) (c .read .result)
     (default-inside gs (w .result) 0 256 (omega arith) ∙ ap (λ i. getD gs i 256) (w .ensures .0))
-    (s .ensures h ∙ ap (λ k. slotOf q k (a .function) (a .column)) (w .ensures .0)) (c .before .place-in .ensures .0)
+    (s .ensures h ∙ ap (λ k. slotOf q k (a .function) (a .column)) (w .ensures .0)) (c .before .slot-place .ensures)
     (c .before .before .if2 .taken) (c .read .ensures)
 
 returns-2 : tie.Need-returns-2
@@ -78,9 +68,7 @@ aggregate-in-spec =
     mul-group
     element-copy-out-group
     slot-among-requires
-    place-in-requires
-    add-read
-    add-read-2
+    slot-place-requires
     read-requires
     returns
     returns-2

@@ -38,14 +38,8 @@ aggregate-of-requires c κs = search needs
 told-by-requires : tie.Need-told-by-requires
 told-by-requires c κs = search needs
 
-place-in-requires : tie.Need-place-in-requires
-place-in-requires c κs = search needs
-
-add-write : tie.Need-add-write
-add-write c = search needs
-
-add-write-2 : tie.Need-add-write-2
-add-write-2 c = search needs
+slot-place-requires : tie.Need-slot-place-requires
+slot-place-requires c κs = search needs
 
 write-requires : tie.Need-write-requires
 write-requires c κs = search needs
@@ -67,10 +61,10 @@ returns-2 c =
     slot-put (given .a) (given .block) (given .group) (given .i) (given .n) (given .count)
     (sized .size .result) (asked .function-at .result) (given .sets .now) (given .files .now)
     (sized .size .ensures .0) (asked .function-at .ensures)
-    (column .column-at .result) (wide .size2 .result) (placed .place-in .result) (aggregate .aggregate-of .result)
+    (column .column-at .result) (wide .size2 .result) (placed .slot-place .result) (aggregate .aggregate-of .result)
     (value .told-by .result) (written .write .last .0) (λ e. omega (arith, column .before .if1 .left, e))
     (column .column-at .ensures) (wide .size2 .ensures .0) (aggregate .aggregate-of .ensures)
-    (value .told-by .ensures) (placed .place-in .ensures .0) (written .write .ensures .1)
+    (value .told-by .ensures) (placed .slot-place .ensures) (written .write .ensures .1)
 
 pub file-slot-spec : {M : Type 1} → statement M
 file-slot-spec =
@@ -85,9 +79,7 @@ file-slot-spec =
     size-requires-2
     aggregate-of-requires
     told-by-requires
-    place-in-requires
-    add-write
-    add-write-2
+    slot-place-requires
     write-requires
     same-length
     returns-2)
