@@ -1,11 +1,11 @@
 -- What each function over the files gives, by its cases, over plain values.
-use Prim.Native.Nat.{ℕ, _+_, _*_, _-_, _≤_, _<_}
+use Prim.Native.Nat.{ℕ, zero, suc, _+_, _*_, _-_, _≤_, _<_}
 use native.Mathlib.Omega.{arith}
 use mathlib.Core.Bool.{false}
 use mathlib.Core.List.{List, _++_, append-nil}
 use mathlib.Core.Path.{_≡_, refl, sym, ap, ap₂, _∙_}
 use lib.IntN.{ℤ, pos}
-use lib.ListN.{length, take, drop, length-drop, drop-of-length-le}
+use lib.ListN.{length, getD, take, drop, length-drop, drop-of-length-le}
 use lib.Seq.{take-all}
 use lib.Signed.{leZ}
 use borrow.Author.Tests.{lt-ltb, le-ltb, lt-leb, le-leb, eq-eqb, ne-eqb}
@@ -13,8 +13,8 @@ use borrow.Rule.Slice.PartMut.{putMid, midOf}
 use Rattle.groups.specs.Asking.{functionAt, columnAt}
 use Rattle.groups.specs.Groups.{markPlace, slotPlace}
 use Rattle.groups.specs.declared.Asked.{Asked}
+use Rattle.groups.proofs.GroupLaws.{default-inside, default-past}
 use Rattle.rows.specs.Columns.{aggregateIn}
-use Rattle.rows.specs.declared.Aggregate.{Aggregate}
 use Rattle.rows.specs.Words.{readAt, wordsWith, wordsZeroed}
 use Rattle.value.specs.declared.Value.{Value}
 use Rattle.filing.specs.Files.{isFiled, wordsBefore, wordsIn, emptied, told, slotValue, slotFiled}
@@ -74,29 +74,67 @@ pub slotValue-is : (a : Asked) (k i columns count : ℕ) (sets : List ℤ)
 unfolding slotValue
 slotValue-is a k i columns count sets = refl
 
--- the two ways through a slot: b is the block's number, f and c what the slot asks for
-module _ (a : Asked) (k n i columns count b f : ℕ) (sets fl : List ℤ) (same : b ≡ k)
-    (function : f ≡ functionAt a (3 * b + i)) where
+-- ---- the first slots of a group filled
+unfoldable pub slotsTo : Asked → (k n columns count : ℕ) → List ℤ → List ℤ → ℕ → List ℤ
+slotsTo a k n columns count sets start zero = start
+slotsTo a k n columns count sets start (suc i) =
+    slotFiled a k n i columns count sets (slotsTo a k n columns count sets start i)
+
+pub slots-begin : (a : Asked) (k n columns count : ℕ) (sets start : List ℤ)
+    → start ≡ slotsTo a k n columns count sets start 0
+unfolding slotsTo
+slots-begin a k n columns count sets start = refl
+
+pub slots-end : (a : Asked) (k n columns count i : ℕ) (sets start fl : List ℤ) → 3 ≤ i → i ≤ 3
+    → fl ≡ slotsTo a k n columns count sets start i → fl ≡ slotsFiled a k n columns count sets start
+unfolding slotsTo slotsFiled
+slots-end a k n columns count i sets start fl h g so-far =
+    so-far
+    ∙ (let e : i ≡ 3 = omega arith in ap (slotsTo a k n columns count sets start) e)
+
+-- past the fifth block no slot asks for anything
+pub slots-past : (a : Asked) (k n columns count : ℕ) (sets start : List ℤ) → length (a .functions) ≡ 15 → 5 ≤ k
+    → start ≡ slotsFiled a k n columns count sets start
+unfolding slotsFiled
+slots-past a k n columns count sets start long h = sym (none 2 _ ∙ none 1 _ ∙ none 0 start)
+  where
+    none : (i : ℕ) (fl : List ℤ) → slotFiled a k n i columns count sets fl ≡ fl
+    none i fl =
+        slot-none a k n i columns count sets fl (default-past (a .functions) (3 * k + i) 255 (omega arith))
+
+-- the two ways through slot i: b is the block's number, f what the array has there
+module _ (a : Asked) (k n columns count b i f : ℕ) (sets start fl : List ℤ) (same : b ≡ k)
+    (inside : 3 * b + i < length (a .functions)) (function : f ≡ getD (a .functions) (3 * b + i) 0)
+    (so-far : fl ≡ slotsTo a k n columns count sets start i) where
   function-is : functionAt a (3 * k + i) ≡ f
-  function-is = ap (λ j. functionAt a (3 * j + i)) (sym same) ∙ sym function
+  function-is =
+      ap (λ j. functionAt a (3 * j + i)) (sym same)
+      ∙ sym (function ∙ default-inside (a .functions) (3 * b + i) 0 255 inside)
 
-  pub slot-left : f ≡ 255 → fl ≡ slotFiled a k n i columns count sets fl
-  slot-left e = sym (slot-none a k n i columns count sets fl (function-is ∙ e))
+  more : slotFiled a k n i columns count sets fl ≡ slotsTo a k n columns count sets start (i + 1)
+  unfolding slotsTo
+  more =
+      let e : i + 1 ≡ suc i = omega arith in
+      ap (slotFiled a k n i columns count sets) so-far ∙ ap (slotsTo a k n columns count sets start) (sym e)
 
-  pub slot-put : (c x p : ℕ) (g : Aggregate) (v : Value) (out : List ℤ) → (f ≡ 255 → ⊥) → c ≡ columnAt a (3 * b + i)
-      → x ≡ c → g ≡ aggregateIn f x columns count sets → v ≡ told g → p ≡ slotPlace k n i
-      → out ≡ wordsWith fl p v → out ≡ slotFiled a k n i columns count sets fl
-  slot-put c x p g v out h column wide agg value place put =
+  pub slots-left : f ≡ 255 → fl ≡ slotsTo a k n columns count sets start (i + 1)
+  slots-left e = sym (slot-none a k n i columns count sets fl (function-is ∙ e)) ∙ more
+
+  pub slots-put : (c at : ℕ) (out : List ℤ) → (f ≡ 255 → ⊥) → 3 * b + i < length (a .columns)
+      → c ≡ getD (a .columns) (3 * b + i) 0 → at ≡ slotPlace k n 0
+      → out ≡ wordsWith fl (at + i) (told (aggregateIn f c columns count sets))
+      → out ≡ slotsTo a k n columns count sets start (i + 1)
+  slots-put c at out h there column place put =
       put
-      ∙ ap₂ (wordsWith fl) place
-      (value ∙ ap told (agg ∙ asked) ∙ sym (slotValue-is a k i columns count sets))
-      ∙ sym (slot-some a k n i columns count sets fl (λ e. h (sym function-is ∙ e)))
+      ∙ ap₂ (wordsWith fl) (let e : at + i ≡ slotPlace k n i = omega arith in e)
+      (ap told asked ∙ sym (slotValue-is a k i columns count sets))
+      ∙ sym (slot-some a k n i columns count sets fl (λ e. h (sym function-is ∙ e))) ∙ more
     where
-      asked : aggregateIn f x columns count sets
+      asked : aggregateIn f c columns count sets
           ≡ aggregateIn (functionAt a (3 * k + i)) (columnAt a (3 * k + i)) columns count sets
       asked =
           ap₂ (λ u w. aggregateIn u w columns count sets) (sym function-is)
-          (wide ∙ column ∙ ap (λ j. columnAt a (3 * j + i)) same)
+          (column ∙ default-inside (a .columns) (3 * b + i) 0 255 there ∙ ap (λ j. columnAt a (3 * j + i)) same)
 
 -- ---- a group filled
 module _ (a : Asked) (k n columns count : ℕ) (mark : Value) (sets fl : List ℤ) where
@@ -116,12 +154,6 @@ module _ (a : Asked) (k n columns count : ℕ) (mark : Value) (sets fl : List �
   unfolding filed
   group-in h = rw (lt-ltb n 256 h) refl
 
-  pub group-put : (x y z out : List ℤ) (p : ℕ) → n < 256 → x ≡ slotFiled a k n 0 columns count sets fl
-      → y ≡ slotFiled a k n 1 columns count sets x → z ≡ slotFiled a k n 2 columns count sets y → p ≡ markPlace k n
-      → out ≡ wordsWith z p mark → out ≡ filed a k n columns count mark sets fl
-  group-put x y z out p h e f g place put =
-      put
-      ∙ ap₂ (λ l q. wordsWith l q mark)
-      (g ∙ ap (slotFiled a k n 2 columns count sets) (f ∙ ap (slotFiled a k n 1 columns count sets) e)
-      ∙ sym slotsFiled-is) place
-      ∙ sym (group-in h)
+  pub group-put : (x out : List ℤ) (p : ℕ) → n < 256 → x ≡ slotsFiled a k n columns count sets fl → p ≡ markPlace k n
+      → out ≡ wordsWith x p mark → out ≡ filed a k n columns count mark sets fl
+  group-put x out p h e place put = put ∙ ap₂ (λ l q. wordsWith l q mark) e place ∙ sym (group-in h)

@@ -25,7 +25,7 @@ use Rattle.value.specs.declared.Value.{Value}
 use Rattle.filing.specs.Files.{isFiled, wordsBefore, wordsIn, emptied, told, slotValue, slotFiled}
 use Rattle.filing.specs.Files.{filed, region}
 use Rattle.filing.proofs.Cases.{filed-past, filed-in, emptied-short, emptied-is, slot-none, slot-some}
-use Rattle.filing.proofs.Cases.{slotValue-is, slotsFiled-is, group-past, group-in}
+use Rattle.filing.proofs.Cases.{slotValue-is, slotsTo, slotsFiled-is, group-past, group-in}
 
 abbrev word : List ℤ → ℕ → ℤ
 word l i = getD l i (pos 0)
@@ -270,6 +270,16 @@ module _ (a : Asked) (k n i columns count : ℕ) (sets fl : List ℤ) where
       same-read (2 * slotPlace k n i) (2 * slotPlace k n i + 2) fl (slotFiled a k n i columns count sets fl) q
       (slot-same (2 * slotPlace k n i) (2 * slotPlace k n i + 2) (omega arith) (omega arith))
       (⊎-elim (λ x. inl (omega arith)) (λ x. inr (omega arith)) (le-or (suc q) (slotPlace k n i)))
+
+-- as many words as before
+pub slots-length : (a : Asked) (k n columns count : ℕ) (sets fl : List ℤ) (i : ℕ)
+    → length (slotsTo a k n columns count sets fl i) ≡ length fl
+unfolding slotsTo
+slots-length a k n columns count sets fl zero = refl
+slots-length a k n columns count sets fl (suc i) =
+    slot-same a k n i columns count sets (slotsTo a k n columns count sets fl i) 0 (2 * slotPlace k n i + 2) (omega arith)
+    (omega arith) .long
+    ∙ slots-length a k n columns count sets fl i
 
 -- what a slot asks for
 pub slot-told : (a : Asked) (k i columns count : ℕ) (sets : List ℤ) (v : Value)

@@ -76,9 +76,7 @@ pub fn file_group(
     if group >= 256 {
         return;
     }
-    slots::file_slot(files, a, block, group, 0, sets, columns, count);
-    slots::file_slot(files, a, block, group, 1, sets, columns, count);
-    slots::file_slot(files, a, block, group, 2, sets, columns, count);
+    slots::file_slots(files, a, block, group, sets, columns, count);
     rows::write(files, slots::mark_place(block, group), mark);
 }
 

@@ -1,4 +1,4 @@
-// The places of a block's marks and slots in the files, and one slot of a group filled.
+// The places of a block's marks and slots in the files, and the slots of a group filled.
 use crate::walk::size;
 use groups::Asked;
 use rows::Aggregate;
@@ -7,9 +7,10 @@ ghost use mathlib.Core.Path.{_≡_};
 ghost use Prim.Native.Nat.{_-_, _<_, _≤_};
 ghost use lib.IntN.{pos};
 ghost use lib.Signed.{leZ};
-ghost use Rattle.groups.specs.Asking.{functionAt, columnAt};
 ghost use Rattle.groups.specs.Groups.{markPlace, slotPlace};
-ghost use Rattle.filing.specs.Files.{wordsIn, told, slotFiled};
+ghost use Rattle.rows.specs.Columns.{aggregateIn};
+ghost use Rattle.rows.specs.Words.{wordsWith};
+ghost use Rattle.filing.specs.Files.{wordsIn, told, slotsFiled};
 
 // How many regions lie before that of a block; block 0 has that of block 1.
 pub(crate) fn regions_before(block: u8) -> usize
@@ -29,12 +30,12 @@ pub(crate) fn mark_place(block: u8, group: usize) -> usize
     1024 * regions_before(block) + group
 }
 
-// The place of a slot of a block's group: those of all groups follow the 256 marks.
-pub(crate) fn slot_place(block: u8, group: usize, slot: usize) -> usize
-    requires { ⌜ (group < 256) × (slot < 3) ⌝ }
-    ensures { λ r. ⌜ r ≡ slotPlace block group slot ⌝ }
+// The place of the first slot of a block's group: the slots of all groups follow the 256 marks.
+pub(crate) fn slot_place(block: u8, group: usize) -> usize
+    requires { ⌜ group < 256 ⌝ }
+    ensures { λ r. ⌜ (r ≡ slotPlace block group 0) × (r < 1000000) ⌝ }
 {
-    1024 * regions_before(block) + 256 + 3 * group + slot
+    1024 * regions_before(block) + 256 + 3 * group
 }
 
 // The words of the marks of a number of groups, 256 at most.
@@ -54,26 +55,6 @@ pub(crate) fn marked(v: Value) -> bool
     v.num >= 1
 }
 
-// The function in slot j, 255 past the last.
-pub(crate) fn function_at(a: Asked, j: usize) -> u8
-    ensures { λ r. ⌜ r ≡ functionAt a j ⌝ }
-{
-    if j < 15 {
-        return a.functions[j];
-    }
-    255
-}
-
-// The column in slot j, 255 past the last.
-pub(crate) fn column_at(a: Asked, j: usize) -> u8
-    ensures { λ r. ⌜ r ≡ columnAt a j ⌝ }
-{
-    if j < 15 {
-        return a.columns[j];
-    }
-    255
-}
-
 // The value of an aggregate, 0/0 where there is none.
 pub(crate) fn told_by(g: Aggregate) -> Value
     ensures { λ r. ⌜ r ≡ told g ⌝ }
@@ -85,25 +66,57 @@ pub(crate) fn told_by(g: Aggregate) -> Value
     }
 }
 
-// What slot i of a block asks for, of a set of count rows of n columns in the words, put into that slot of a group.
-pub(crate) fn file_slot(
+// The function of a column, of a set of count rows of n columns in the words, put at a place of the files.
+pub(crate) fn put_slot(
     files: &mut [i64],
-    a: Asked,
-    block: u8,
-    group: usize,
-    i: usize,
+    place: usize,
+    function: u8,
+    column: u8,
     sets: &[i64],
     n: usize,
     count: usize,
 )
-    requires { ⌜ (group < 256) × (i < 3) ⌝ }
-    ensures { λ _. ⌜ now (files .exit) ≡ slotFiled a block group i n count (now (sets .entry)) (now (files .entry)) ⌝ }
+    ensures { λ _. ⌜ now (files .exit) ≡ wordsWith (now (files .entry)) place
+        (told (aggregateIn function column n count (now (sets .entry)))) ⌝ }
 {
-    let j = 3 * size(block) + i;
-    let function = function_at(a, j);
-    if function == 255 {
+    let v = told_by(rows::aggregate_of(sets, n, count, function, size(column)));
+    rows::write(files, place, v);
+}
+
+// What the slots of a block ask for, of a set of count rows of n columns in the words, put into the slots of a group; a
+// block past the fifth asks for nothing. What is asked for is handed over once for the three slots, and read in place:
+// a copy for each slot would take longer than filling it.
+pub(crate) fn file_slots(
+    files: &mut [i64],
+    a: Asked,
+    block: u8,
+    group: usize,
+    sets: &[i64],
+    n: usize,
+    count: usize,
+)
+    requires { ⌜ group < 256 ⌝ }
+    ensures { λ _. ⌜ now (files .exit) ≡ slotsFiled a block group n count (now (sets .entry)) (now (files .entry)) ⌝ }
+{
+    let k = size(block);
+    if k >= 5 {
         return;
     }
-    let v = told_by(rows::aggregate_of(sets, n, count, function, size(column_at(a, j))));
-    rows::write(files, slot_place(block, group, i), v);
+    let at = slot_place(block, group);
+    let mut i: usize = 0;
+    while i < 3 {
+        let function = a.functions[3 * k + i];
+        if function != 255 {
+            put_slot(
+                files,
+                at + i,
+                function,
+                a.columns[3 * k + i],
+                sets,
+                n,
+                count,
+            );
+        }
+        i += 1;
+    }
 }

@@ -13,14 +13,8 @@ returns c =
     .now)
     (given .files .now) (omega arith))
 
-file-slot-requires : tie.Need-file-slot-requires
-file-slot-requires c κs = search needs
-
-file-slot-requires-2 : tie.Need-file-slot-requires-2
-file-slot-requires-2 c κs = search needs
-
-file-slot-requires-3 : tie.Need-file-slot-requires-3
-file-slot-requires-3 c κs = search needs
+file-slots-requires : tie.Need-file-slots-requires
+file-slots-requires c κs = search needs
 
 mark-place-requires : tie.Need-mark-place-requires
 mark-place-requires c κs = search needs
@@ -35,25 +29,13 @@ returns-2 : tie.Need-returns-2
 returns-2 c =
     let written = c .before in
     let placed = written .before in
-    let third = placed .before .before .before in
-    let second = third .before .before .before in
-    let first = second .before .before .before in
-    let given = first .before .before .before .args in
+    let slots = placed .before .before .before in
+    let given = slots .before .before .before .args in
     group-put (given .a) (given .block) (given .group) (given .columns) (given .count) (given .mark) (given .sets .now)
-    (given .files .now) (first .file-slot .last .0) (second .file-slot2 .last .0) (third .file-slot3 .last .0)
-    (written .write .last .0) (placed .mark-place .result) (omega arith) (first .file-slot .ensures)
-    (second .file-slot2 .ensures) (third .file-slot3 .ensures) (placed .mark-place .ensures)
-    (written .write .ensures .1)
+    (given .files .now) (slots .file-slots .last .0) (written .write .last .0) (placed .mark-place .result) (omega arith)
+    (slots .file-slots .ensures) (placed .mark-place .ensures) (written .write .ensures .1)
 
 pub file-group-spec : {M : Type 1} → statement M
 file-group-spec =
     tie.close
-    (tie.spec
-    returns
-    file-slot-requires
-    file-slot-requires-2
-    file-slot-requires-3
-    mark-place-requires
-    write-requires
-    same-length
-    returns-2)
+    (tie.spec returns file-slots-requires mark-place-requires write-requires same-length returns-2)
