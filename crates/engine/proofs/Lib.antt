@@ -25,7 +25,7 @@ pub mod StraightFacts
 pub mod StemAnswers
 pub mod StemSteps
 pub mod StemFacts
-pub mod StemMerges
+pub mod PlacedAnswers
 pub mod SettleLaws
 pub mod RefusalSteps
 pub mod AfterFacts

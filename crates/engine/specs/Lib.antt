@@ -5,6 +5,7 @@ pub mod Leaves
 pub mod Steps
 pub mod Straight
 pub mod Stem
+pub mod Placed
 pub mod After
 pub mod Settling
 pub mod Runs
