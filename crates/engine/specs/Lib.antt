@@ -1,12 +1,4 @@
--- What an evaluation promises.
-pub mod Clock
-pub mod Standing
-pub mod Leaves
-pub mod Steps
-pub mod Straight
-pub mod Stem
-pub mod Placed
-pub mod After
+-- What a run promises.
 pub mod Settling
 pub mod Runs
 pub mod RunAgreement
