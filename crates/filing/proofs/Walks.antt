@@ -69,10 +69,12 @@ decode-other t (suc (suc (suc (suc k)))) a f b c h = absurd (omega arith)
 
 module _ (bs : List ℕ) where
   pub named : (t : Asked) (i : ℕ) → 3 < byteAt bs i
-      → ask t (byteAt bs (i + 1)) (byteAt bs (i + 2)) (byteAt bs (i + 3)) ≡ askOf t (elementAt bs i)
+      → {f b c : ℕ} → f ≡ byteAt bs (i + 1) → b ≡ byteAt bs (i + 2) → c ≡ byteAt bs (i + 3)
+      → ask t f b c ≡ askOf t (elementAt bs i)
   unfolding elementAt
-  named t i h =
-      decode-named t (byteAt bs i) (wordAt bs (i + 1)) (byteAt bs (i + 1)) (byteAt bs (i + 2)) (byteAt bs (i + 3)) h
+  named t i h f b c =
+      (λ j. ask t (f j) (b j) (c j))
+      ∙ decode-named t (byteAt bs i) (wordAt bs (i + 1)) (byteAt bs (i + 1)) (byteAt bs (i + 2)) (byteAt bs (i + 3)) h
 
   pub other : (t : Asked) (i : ℕ) → byteAt bs i ≤ 3 → t ≡ askOf t (elementAt bs i)
   unfolding elementAt

@@ -1,7 +1,7 @@
 -- `filing::asks_of` meets its contract. The loop's invariant: the blocks from the k-th on, after those passed, give
 -- the whole. Five blocks are kept, whatever the count.
 use borrow.Author.Needs.{needs}
-use Prim.Native.Nat.{_-_}
+use Prim.Native.Nat.{_+_, _-_}
 use native.Mathlib.Omega.{arith}
 use mathlib.Core.Path.{_≡_, refl, sym, ap, _∙_}
 use lib.ListN.{length-map}
@@ -63,12 +63,10 @@ loop-again c =
     let turn = c .before .before .before in
     let given = turn .before .before .before .args in (
       turn .loop .inv .0,
-      cc (
-        turn .loop .inv .1,
-        c .ask-block .ensures,
-        blocks-turn (given .s .now) (given .t2) (turn .loop .y) (turn .loop .k)
-            (going-blocks (turn .loop .k) (given .t2 .count) (c .before .before .loop-test .taken) .1),
-      ),
+      ap (λ y. askAll y (othersFrom (given .s .now) (given .t2) (turn .loop .k + 1))) (c .ask-block .ensures)
+          ∙ sym (blocks-turn (given .s .now) (given .t2) (turn .loop .y) (turn .loop .k)
+          (going-blocks (turn .loop .k) (given .t2 .count) (c .before .before .loop-test .taken) .1))
+          ∙ turn .loop .inv .1,
     )
 
 -- none left
@@ -76,12 +74,10 @@ returns : tie.Need-returns Inv-loop μ-loop
 returns c =
     let turn = c .before in
     let given = turn .before .before .before .args in
-    cc (
-      turn .loop .inv .1,
-      blocks-done (given .s .now) (given .t2) (turn .loop .y) (turn .loop .k)
-          (sym (length-map (given .t2 .blocks) _) ∙ turn .before .before .before .good .1 .0 .1 .1 .0 .1 .0 .1)
-          (c .loop-test .left),
-    )
+    sym (blocks-done (given .s .now) (given .t2) (turn .loop .y) (turn .loop .k)
+    (sym (length-map (given .t2 .blocks) _) ∙ turn .before .before .before .good .1 .0 .1 .1 .0 .1 .0 .1)
+    (c .loop-test .left))
+    ∙ turn .loop .inv .1
 
 pub asks-of-spec : {M : Type 1} → statement M
 asks-of-spec =

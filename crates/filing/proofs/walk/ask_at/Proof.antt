@@ -1,5 +1,6 @@
 -- `filing::walk::ask_at` meets its contract: an element whose kind is past 3 is an aggregate, any other is none.
 use native.Mathlib.Omega.{arith}
+use mathlib.Core.Path.{_∙_}
 use Rattle.filing.proofs.Walks.{named, other}
 use borrow.Author.Needs.{needs}
 use Rattle.filing.proofs.walk.ask_at.Statement.{statement}
@@ -33,14 +34,11 @@ returns : tie.Need-returns
 returns c =
     let kind = c .before .before .before .before .before in
     let given = kind .before .before .args in
-    cc (
-      c .asked .ensures,
-      c .before .before .before .byte-at2 .ensures,
-      c .before .before .byte-at3 .ensures,
-      c .before .byte-at4 .ensures,
-      named (given .s .now) (given .a) (given .at)
-          (omega (arith, kind .byte-at .ensures, c .before .before .before .before .if1 .taken)),
-    )
+    c .asked .ensures
+    ∙ named (given .s .now) (given .a) (given .at)
+    (omega (arith, kind .byte-at .ensures, c .before .before .before .before .if1 .taken))
+    (c .before .before .before .byte-at2 .ensures) (c .before .before .byte-at3 .ensures)
+    (c .before .byte-at4 .ensures)
 
 returns-2 : tie.Need-returns-2
 returns-2 c =

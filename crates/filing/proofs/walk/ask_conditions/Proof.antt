@@ -1,11 +1,12 @@
 -- `filing::walk::ask_conditions` meets its contract. The loop's invariant: the conditions left, after those passed,
 -- give the whole. Where the bytes end the elements left are empty.
+use Prim.Native.Nat.{_+_, _-_}
 use native.Mathlib.Omega.{arith}
-use mathlib.Core.Path.{_≡_, refl}
+use mathlib.Core.Path.{_≡_, refl, sym, ap, _∙_}
 use lib.ListN.{length}
 use Rattle.model.specs.Lists.{concatMap}
-use Rattle.syntax.specs.Described.{conditionsAt}
-use Rattle.filing.specs.Asks.{askAll, sides}
+use Rattle.syntax.specs.Described.{elementAt, conditionsAt}
+use Rattle.filing.specs.Asks.{askOf, askAll, sides}
 use Rattle.filing.proofs.Walks.{going, conditions-turn, conditions-done}
 use Rattle.filing.proofs.walk.ask_conditions.Statement.{statement}
 use Rattle.filing.proofs.walk.ask_conditions.Tie as tie
@@ -77,22 +78,19 @@ loop-again c =
     let turn = c .before .before .before in
     let bytes = turn .before .before .args .s .now in
     let g = going (turn .loop .more) (turn .loop .i) (length bytes) (c .before .before .loop-test .taken) in
-    cc (
-      turn .loop .inv,
-      c .before .ask-at .ensures,
-      c .ask-at2 .ensures,
-      conditions-turn bytes (turn .loop .y) (turn .loop .more) (turn .loop .i) (g .0),
-    )
+    let left = c .before .ask-at .ensures in
+    let both = c .ask-at2 .ensures ∙ ap (λ y. askOf y (elementAt bytes (turn .loop .i + 12))) left in
+    ap (λ y. askAll y (concatMap sides (conditionsAt bytes (turn .loop .more - 1) (turn .loop .i + 21)))) both
+    ∙ sym (conditions-turn bytes (turn .loop .y) (turn .loop .more) (turn .loop .i) (g .0))
+    ∙ turn .loop .inv
 
 -- none left, or the bytes end
 returns : tie.Need-returns Inv-loop μ-loop
 returns c =
     let turn = c .before in
     let bytes = turn .before .before .args .s .now in
-    cc (
-      turn .loop .inv,
-      conditions-done bytes (turn .loop .y) (turn .loop .more) (turn .loop .i) (c .loop-test .left),
-    )
+    sym (conditions-done bytes (turn .loop .y) (turn .loop .more) (turn .loop .i) (c .loop-test .left))
+    ∙ turn .loop .inv
 
 pub ask-conditions-spec : {M : Type 1} → statement M
 ask-conditions-spec =

@@ -1,7 +1,8 @@
 -- `filing::walk::ask_elements` meets its contract. The loop's invariant: the elements left, after those passed, give
 -- the whole. Where the bytes end the elements left are empty.
+use Prim.Native.Nat.{_+_, _-_}
 use native.Mathlib.Omega.{arith}
-use mathlib.Core.Path.{_≡_, refl}
+use mathlib.Core.Path.{_≡_, refl, sym, ap, _∙_}
 use lib.ListN.{length}
 use Rattle.syntax.specs.Described.{elementsAt}
 use Rattle.filing.specs.Asks.{askAll}
@@ -52,21 +53,16 @@ loop-again c =
     let turn = c .before .before in
     let bytes = turn .before .before .args .s .now in
     let g = going (turn .loop .more) (turn .loop .i) (length bytes) (c .before .loop-test .taken) in
-    cc (
-      turn .loop .inv,
-      c .ask-at .ensures,
-      elements-turn bytes (turn .loop .y) (turn .loop .more) (turn .loop .i) (g .0),
-    )
+    ap (λ y. askAll y (elementsAt bytes (turn .loop .more - 1) (turn .loop .i + 9))) (c .ask-at .ensures)
+    ∙ sym (elements-turn bytes (turn .loop .y) (turn .loop .more) (turn .loop .i) (g .0))
+    ∙ turn .loop .inv
 
 -- none left, or the bytes end
 returns : tie.Need-returns Inv-loop μ-loop
 returns c =
     let turn = c .before in
     let bytes = turn .before .before .args .s .now in
-    cc (
-      turn .loop .inv,
-      elements-done bytes (turn .loop .y) (turn .loop .more) (turn .loop .i) (c .loop-test .left),
-    )
+    sym (elements-done bytes (turn .loop .y) (turn .loop .more) (turn .loop .i) (c .loop-test .left)) ∙ turn .loop .inv
 
 pub ask-elements-spec : {M : Type 1} → statement M
 ask-elements-spec =
