@@ -100,6 +100,13 @@ pub record-whole : (r : ℕ) (bs : List ℕ) (i : ℕ) → headOf r ≤ length b
 unfolding recordOk
 record-whole r bs i h k = simp (le-leb (headOf r) (length bs - i) h, le-leb (recordEnd r bs i) (length bs) k)
 
+-- the same from what is read: the length of the head, the count of the elements, and what is told of each part
+pub record-read : (r : ℕ) (bs : List ℕ) (i : ℕ) → headOf r ≤ length bs - i → recordEnd r bs i ≤ length bs
+    → {h n : ℕ} {a b : Bool} → h ≡ headOf r → n ≡ entriesOf r bs i → a ≡ headOk r bs i
+    → b ≡ elementsOk r bs n (i + h) → a && b ≡ recordOk r bs i
+record-read r bs i p q eh en ea eb =
+    (λ j. ea j && (eb ∙ λ k. elementsOk r bs (en k) (i + eh k)) j) ∙ sym (record-whole r bs i p q)
+
 pub both : (a b : Bool) → a && b ≡ true → (a ≡ true) × (b ≡ true)
 both true b e = (refl, e)
 both false b e = absurd (subst T (sym e) tt)
@@ -132,6 +139,13 @@ unfolding run
 run-turn zero r bs n i h e = absurd (omega arith)
 run-turn (suc f) r bs n i h e = let p : suc f - 1 ≡ f = omega arith in simp (e, p)
 
+-- the same among the records of all the bytes, e where the record read ends
+pub run-turned : (r : ℕ) (bs : List ℕ) (n i : ℕ) → n < length bs → recordOk r bs i ≡ true → {e : ℕ}
+    → e ≡ recordEnd r bs i → run (length bs - (n + 1)) r bs (n + 1) e ≡ run (length bs - n) r bs n i
+run-turned r bs n i h k g =
+    let p : length bs - (n + 1) ≡ length bs - n - 1 = omega arith in
+    (λ j. run (p j) r bs (n + 1) (g j)) ∙ sym (run-turn (length bs - n) r bs n i (omega arith) k)
+
 pub run-done : (f r : ℕ) (bs : List ℕ) (n i : ℕ) → recordOk r bs i ≡ false
     → run f r bs n i ≡ record { at = i; count = n }
 unfolding run
@@ -161,6 +175,12 @@ pub block-is : (bs : List ℕ) (i : ℕ) → recordOk 3 bs i ≡ true
     → block bs i ≡ blockWith bs i (runs 0 bs (i + 3)) (runs 1 bs (runs 0 bs (i + 3) .at))
 unfolding block
 block-is bs i e = simp e
+
+-- the same from what is read: a run of rows and the run of conditions after it
+pub block-read : (bs : List ℕ) (i : ℕ) → recordOk 3 bs i ≡ true → {r c : Run} → r ≡ runs 0 bs (i + 3)
+    → c ≡ runs 1 bs (r .at) → blockWith bs i r c ≡ block bs i
+block-read bs i k f g =
+    (λ j. blockWith bs i (f j) ((g ∙ ap (λ (r : Run). runs 1 bs (r .at)) f) j)) ∙ sym (block-is bs i k)
 
 pub with-bare : (bs : List ℕ) (i : ℕ) (r c : Run) → recordOk 2 bs (c .at) ≡ false → blockWith bs i r c ≡ noBlock
 with-bare bs i r c e = simp e

@@ -1,7 +1,7 @@
 use native.Mathlib.Omega.{arith}
 use mathlib.Core.Logic.{⊎-elim}
 use mathlib.Core.Path.{sym, _∙_}
-use Rattle.syntax.proofs.Laws.{record-in, block-is, block-bare, with-bare, with-some}
+use Rattle.syntax.proofs.Laws.{record-in, block-read, block-bare, with-bare, with-some}
 use Rattle.syntax.proofs.block_at.Statement.{statement}
 use borrow.Author.Needs.{needs}
 use Rattle.syntax.proofs.block_at.Tie as tie
@@ -75,41 +75,32 @@ record-end-requires c κs =
 
 returns : tie.Need-returns
 returns c =
-    cc (
-      block-is
-          (c .before .before .before .before .before .before .before .before .before .before .before .args .s .now)
-          (c .before .before .before .before .before .before .before .before .before .before .before .args .at)
-          (sym (c .before .before .before .before .before .before .before .before .before .record-ok .ensures)
-          ∙ c .before .before .before .before .before .before .before .before .if1 .taken),
-      with-some (c .before .before .before .before .before .before .before .before .before .before .before .args .s .now)
-          (c .before .before .before .before .before .before .before .before .before .before .before .args .at)
-          (c .before .before .before .before .before .before .before .run-of .result)
-          (c .before .before .before .before .before .before .run-of2 .result) (c .before .size .result)
-          (c .record-end .result) (sym (c .before .before .before .before .before .record-ok2 .ensures)
-          ∙ c .before .before .before .before .if2 .taken) (c .before .size .ensures .0) (c .record-end .ensures),
-      c .before .before .before .before .before .before .before .run-of .ensures .0,
-      c .before .before .before .before .before .before .run-of2 .ensures .0,
-    )
+    let outputs = c .before .before .before .before in
+    let conditions = outputs .before .before in
+    let rows = conditions .before in
+    let head = rows .before in
+    let given = head .before .before .before .args in
+    with-some (given .s .now) (given .at) (rows .run-of .result) (conditions .run-of2 .result) (c .before .size .result)
+    (c .record-end .result) (sym (outputs .before .record-ok2 .ensures) ∙ outputs .if2 .taken)
+    (c .before .size .ensures .0) (c .record-end .ensures)
+    ∙ block-read (given .s .now) (given .at) (sym (head .before .record-ok .ensures) ∙ head .if1 .taken)
+    (rows .run-of .ensures .0) (conditions .run-of2 .ensures .0)
 
 no-block-requires : tie.Need-no-block-requires
 no-block-requires c κs = search needs
 
 returns-2 : tie.Need-returns-2
 returns-2 c =
-    ⊎-elim (λ w. cc (
-      block-is (c .before .before .before .before .args .s .now)
-          (c .before .before .before .before .args .at) (sym (c .before .before .record-ok .ensures) ∙ w .0 .taken),
-      with-bare (c .before .before .before .before .args .s .now) (c .before .before .before .before .args .at)
-          (w .1 .result) (w .2 .result) (sym (w .3 .ensures) ∙ w .4 .left),
-      w .1 .ensures .0,
-      w .2 .ensures .0,
-      c .no-block .ensures,
-    ))
-    (λ w. cc (
-      block-bare (c .before .before .before .before .args .s .now) (c .before .before .before .before .args .at)
-          (sym (c .before .before .record-ok .ensures) ∙ w .left),
-      c .no-block .ensures,
-    )) (c .before .if1 .came)
+    let head = c .before .before in
+    let given = head .before .before .args in
+    c .no-block .ensures
+    ∙ ⊎-elim
+    (λ w.
+    sym (with-bare (given .s .now) (given .at) (w .1 .result) (w .2 .result) (sym (w .3 .ensures) ∙ w .4 .left))
+    ∙ block-read (given .s .now) (given .at) (sym (head .record-ok .ensures) ∙ w .0 .taken) (w .1 .ensures .0)
+    (w .2 .ensures .0))
+    (λ w. sym (block-bare (given .s .now) (given .at) (sym (head .record-ok .ensures) ∙ w .left)))
+    (c .before .if1 .came)
 
 pub block-at-spec : {M : Type 1} → statement M
 block-at-spec =

@@ -1,7 +1,7 @@
-use Prim.Native.Nat.{_+_, _*_, _≤_}
+use Prim.Native.Nat.{_+_, _*_, _-_, _≤_}
 use native.Mathlib.Omega.{arith}
 use mathlib.Core.Bool.{_&&_}
-use mathlib.Core.Path.{_≡_, refl}
+use mathlib.Core.Path.{_≡_, refl, sym, ap, _∙_}
 use lib.ListN.{length}
 use Rattle.syntax.specs.Places.{elementsOk}
 use Rattle.syntax.proofs.Laws.{elements-turn, elements-done}
@@ -34,16 +34,23 @@ loop-less : tie.Need-loop-less Inv-loop μ-loop
 loop-less c = omega arith
 
 loop-again : tie.Need-loop-again Inv-loop μ-loop
-loop-again c = (
-  omega arith,
-  cc (elements-turn (c .before .before .loop .ok) (c .before .before .before .before .args .rec)
-      (c .before .before .before .before .args .s .now) (c .before .before .loop .more) (c .before .before .loop .i)
-      (omega arith)),
-)
+loop-again c =
+    let turn = c .before .before in
+    let given = turn .before .before .args in
+    let rest = elementsOk (given .rec) (given .s .now) (turn .loop .more - 1) (turn .loop .i + 9) in (
+      omega arith,
+      ap (λ b. (turn .loop .ok && b) && rest) (c .element-ok .ensures)
+          ∙ sym (elements-turn (turn .loop .ok) (given .rec) (given .s .now) (turn .loop .more) (turn .loop .i)
+          (omega arith))
+          ∙ turn .loop .inv .1,
+    )
 
 returns : tie.Need-returns Inv-loop μ-loop
-returns c = cc (elements-done (c .before .loop .ok) (c .before .before .before .args .rec)
-    (c .before .before .before .args .s .now) (c .before .loop .more) (c .before .loop .i) (omega arith))
+returns c =
+    let turn = c .before in
+    let given = turn .before .before .args in
+    sym (elements-done (turn .loop .ok) (given .rec) (given .s .now) (turn .loop .more) (turn .loop .i) (omega arith))
+    ∙ turn .loop .inv .1
 
 pub elements-ok-spec : {M : Type 1} → statement M
 elements-ok-spec =

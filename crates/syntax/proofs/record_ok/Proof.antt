@@ -1,6 +1,6 @@
 use native.Mathlib.Omega.{arith}
 use mathlib.Core.Path.{sym}
-use Rattle.syntax.proofs.Laws.{record-short, record-cut, record-whole, end-is}
+use Rattle.syntax.proofs.Laws.{record-short, record-cut, record-read, end-is}
 use Rattle.syntax.proofs.record_ok.Statement.{statement}
 use borrow.Author.Needs.{needs}
 use Rattle.syntax.proofs.record_ok.Tie as tie
@@ -52,15 +52,13 @@ elements-ok-requires : tie.Need-elements-ok-requires
 elements-ok-requires c κs = search needs
 
 returns-3 : tie.Need-returns-3
-returns-3 c = cc (record-whole (c .before .before .before .before .before .before .before .before .args .rec)
-    (c .before .before .before .before .before .before .before .before .args .s .now)
-    (c .before .before .before .before .before .before .before .before .args .at) (omega arith)
-    (omega (
-      arith,
-      end-is (c .before .before .before .before .before .before .before .before .args .rec)
-          (c .before .before .before .before .before .before .before .before .args .s .now)
-          (c .before .before .before .before .before .before .before .before .args .at),
-    )))
+returns-3 c =
+    let entries = c .before .before .before in
+    let head = entries .before .before .before in
+    let given = head .before .before .args in
+    record-read (given .rec) (given .s .now) (given .at) (omega arith)
+    (omega (arith, end-is (given .rec) (given .s .now) (given .at))) (head .head-of .ensures .0)
+    (entries .entries-of .ensures .0) (c .before .head-ok .ensures) (c .elements-ok .ensures)
 
 pub record-ok-spec : {M : Type 1} → statement M
 record-ok-spec =

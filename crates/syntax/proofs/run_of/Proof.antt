@@ -4,7 +4,7 @@ use native.Mathlib.Omega.{arith}
 use mathlib.Core.Path.{_≡_, sym, _∙_}
 use lib.ListN.{length}
 use Rattle.syntax.specs.Places.{run}
-use Rattle.syntax.proofs.Laws.{run-turn, run-done, record-in}
+use Rattle.syntax.proofs.Laws.{run-turned, run-done, record-in}
 use Rattle.syntax.proofs.run_of.Statement.{statement}
 use borrow.Author.Needs.{needs}
 use Rattle.syntax.proofs.run_of.Tie as tie
@@ -39,29 +39,26 @@ loop-less c = let h = record-in (c .before .before .before .before .before .args
     (sym (c .before .before .record-ok .ensures) ∙ c .before .if1 .taken) in omega arith
 
 loop-again : tie.Need-loop-again Inv-loop μ-loop
-loop-again c = let h = record-in (c .before .before .before .before .before .args .rec)
-    (c .before .before .before .before .before .args .s .now) (c .before .before .before .loop .i)
-    (sym (c .before .before .record-ok .ensures) ∙ c .before .if1 .taken) in
-    let e : length (c .before .before .before .before .before .args .s .now)
-    - (c .before .before .before .loop .n + 1) ≡ length
-    (c .before .before .before .before .before .args .s .now) - c .before .before .before .loop .n - 1 =
-    omega arith in (
+loop-again c =
+    let turn = c .before .before .before in
+    let given = turn .before .before .args in
+    let ok = sym (c .before .before .record-ok .ensures) ∙ c .before .if1 .taken in
+    let h = record-in (given .rec) (given .s .now) (turn .loop .i) ok in (
       omega arith,
       omega arith,
-      cc (run-turn (length (c .before .before .before .before .before .args .s .now)
-          - c .before .before .before .loop .n) (c .before .before .before .before .before .args .rec)
-          (c .before .before .before .before .before .args .s .now) (c .before .before .before .loop .n)
-          (c .before .before .before .loop .i) (omega arith)
-          (sym (c .before .before .record-ok .ensures) ∙ c .before .if1 .taken)),
+      run-turned (given .rec) (given .s .now) (turn .loop .n) (turn .loop .i) (omega arith) ok (c .record-end .ensures)
+          ∙ turn .loop .inv .2,
     )
 
 returns : tie.Need-returns Inv-loop μ-loop
-returns c = (
-  cc (run-done (length (c .before .before .before .before .args .s .now) - c .before .before .loop .n)
-      (c .before .before .before .before .args .rec) (c .before .before .before .before .args .s .now)
-      (c .before .before .loop .n) (c .before .before .loop .i) (sym (c .before .record-ok .ensures) ∙ c .if1 .left)),
-  c .before .before .loop .inv .1,
-)
+returns c =
+    let turn = c .before .before in
+    let given = turn .before .before .args in (
+      sym (run-done (length (given .s .now) - turn .loop .n) (given .rec) (given .s .now) (turn .loop .n)
+          (turn .loop .i) (sym (c .before .record-ok .ensures) ∙ c .if1 .left))
+          ∙ turn .loop .inv .2,
+      turn .loop .inv .1,
+    )
 
 pub run-of-spec : {M : Type 1} → statement M
 run-of-spec =
