@@ -9,5 +9,6 @@ pub mod StemParts
 pub mod StemWhole
 pub mod StemLaws
 pub mod StemUses
+mod WordPlaces
 mod OutputSteps
 pub mod OutputLaws
