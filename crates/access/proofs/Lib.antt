@@ -6,6 +6,5 @@ pub mod AccessLaws
 pub mod KeyLaws
 pub mod MergeFreeLaws
 pub mod EmptyLaws
-pub mod KeepLaws
 pub mod IndexingLaws
 mod CodeLaws

@@ -2,4 +2,3 @@
 pub mod World
 pub mod Access
 pub mod Indexing
-pub mod Keeping

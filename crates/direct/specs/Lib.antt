@@ -1,6 +1,3 @@
--- Blocks whose rows are cells of one table (Direct), how they lie in words (Stored), those of them that have children
--- (Stem), and rows of cells and aggregates (Outputs).
+-- Blocks whose rows are cells of one table (Direct), and how they lie in words (Stored).
 pub mod Direct
 pub mod Stored
-pub mod Stem
-pub mod Outputs

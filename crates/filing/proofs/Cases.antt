@@ -18,7 +18,7 @@ use Rattle.rows.specs.Columns.{aggregateIn}
 use Rattle.rows.specs.Words.{readAt, wordsWith, wordsZeroed}
 use Rattle.value.specs.declared.Value.{Value}
 use Rattle.filing.specs.Files.{isFiled, wordsBefore, wordsIn, emptied, told, slotValue, slotFiled}
-use Rattle.filing.specs.Files.{slotsFiled, filed}
+use Rattle.filing.specs.Files.{slotsFiled, filledMark, filed}
 
 -- ---- whether a group is filled
 pub filed-past : (fl : List ℤ) (k n : ℕ) → 256 ≤ n → isFiled fl k n ≡ false
@@ -137,23 +137,23 @@ module _ (a : Asked) (k n columns count b i f : ℕ) (sets start fl : List ℤ) 
           (column ∙ default-inside (a .columns) (3 * b + i) 0 255 there ∙ ap (λ j. columnAt a (3 * j + i)) same)
 
 -- ---- a group filled
-module _ (a : Asked) (k n columns count : ℕ) (mark : Value) (sets fl : List ℤ) where
+module _ (a : Asked) (k n columns count : ℕ) (sets fl : List ℤ) where
   pub slotsFiled-is : slotsFiled a k n columns count sets fl
       ≡ slotFiled a k n 2 columns count sets
       (slotFiled a k n 1 columns count sets (slotFiled a k n 0 columns count sets fl))
   unfolding slotsFiled
   slotsFiled-is = refl
 
-  pub group-past : 256 ≤ n → filed a k n columns count mark sets fl ≡ fl
+  pub group-past : 256 ≤ n → filed a k n columns count sets fl ≡ fl
   unfolding filed
   group-past h = rw (le-ltb n 256 h) refl
 
   pub group-in : n < 256
-      → filed a k n columns count mark sets fl
-      ≡ wordsWith (slotsFiled a k n columns count sets fl) (markPlace k n) mark
+      → filed a k n columns count sets fl
+      ≡ wordsWith (slotsFiled a k n columns count sets fl) (markPlace k n) filledMark
   unfolding filed
   group-in h = rw (lt-ltb n 256 h) refl
 
   pub group-put : (x out : List ℤ) (p : ℕ) → n < 256 → x ≡ slotsFiled a k n columns count sets fl → p ≡ markPlace k n
-      → out ≡ wordsWith x p mark → out ≡ filed a k n columns count mark sets fl
-  group-put x out p h e place put = put ∙ ap₂ (λ l q. wordsWith l q mark) e place ∙ sym (group-in h)
+      → out ≡ wordsWith x p filledMark → out ≡ filed a k n columns count sets fl
+  group-put x out p h e place put = put ∙ ap₂ (λ l q. wordsWith l q filledMark) e place ∙ sym (group-in h)

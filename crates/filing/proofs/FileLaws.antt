@@ -22,7 +22,7 @@ use Rattle.rows.specs.Words.{roomOf, withValue, readAt, wordsWith, wordsZeroed}
 use Rattle.rows.specs.declared.Aggregate.the-variants.{Of}
 use Rattle.syntax.proofs.Elements.{le-or}
 use Rattle.value.specs.declared.Value.{Value}
-use Rattle.filing.specs.Files.{isFiled, wordsBefore, wordsIn, emptied, told, slotValue, slotFiled}
+use Rattle.filing.specs.Files.{isFiled, filledMark, wordsBefore, wordsIn, emptied, told, slotValue, slotFiled}
 use Rattle.filing.specs.Files.{filed, region}
 use Rattle.filing.proofs.Cases.{filed-past, filed-in, emptied-short, emptied-is, slot-none, slot-some}
 use Rattle.filing.proofs.Cases.{slotValue-is, slotsTo, slotsFiled-is, group-past, group-in}
@@ -288,7 +288,7 @@ pub slot-told : (a : Asked) (k i columns count : ℕ) (sets : List ℤ) (v : Val
 slot-told a k i columns count sets v e = slotValue-is a k i columns count sets ∙ ap told e
 
 -- ---- a group filled
-module _ (a : Asked) (k n columns count : ℕ) (mark : Value) (sets fl : List ℤ) where
+module _ (a : Asked) (k n columns count : ℕ) (sets fl : List ℤ) where
   abbrev one : List ℤ
   one = slotFiled a k n 0 columns count sets fl
 
@@ -317,93 +317,92 @@ module _ (a : Asked) (k n columns count : ℕ) (mark : Value) (sets fl : List �
       same-then from to fl two three (two-same h)
       (slot-same a k n 2 columns count sets two from to (omega arith) (omega arith))
 
-  whole : n < 256 → filed a k n columns count mark sets fl ≡ wordsWith three (markPlace k n) mark
+  whole : n < 256 → filed a k n columns count sets fl ≡ wordsWith three (markPlace k n) filledMark
   whole h =
-      group-in a k n columns count mark sets fl h
-      ∙ ap (λ l. wordsWith l (markPlace k n) mark) (slotsFiled-is a k n columns count mark sets fl)
+      group-in a k n columns count sets fl h
+      ∙ ap (λ l. wordsWith l (markPlace k n) filledMark) (slotsFiled-is a k n columns count sets fl)
 
   -- the words outside the block's region are as they were
-  filed-same : Same from to fl (filed a k n columns count mark sets fl)
+  filed-same : Same from to fl (filed a k n columns count sets fl)
   filed-same = ⊎-elim inside past (le-or (suc n) 256)
     where
-      inside : n < 256 → Same from to fl (filed a k n columns count mark sets fl)
+      inside : n < 256 → Same from to fl (filed a k n columns count sets fl)
       inside h =
           subst (Same from to fl) (sym (whole h))
-          (same-then from to fl three (wordsWith three (markPlace k n) mark) (three-same h)
-          (with-same three (markPlace k n) mark from to (omega arith) (omega arith)))
+          (same-then from to fl three (wordsWith three (markPlace k n) filledMark) (three-same h)
+          (with-same three (markPlace k n) filledMark from to (omega arith) (omega arith)))
 
-      past : 256 < suc n → Same from to fl (filed a k n columns count mark sets fl)
+      past : 256 < suc n → Same from to fl (filed a k n columns count sets fl)
       past h =
-          subst (Same from to fl) (sym (group-past a k n columns count mark sets fl (omega arith)))
+          subst (Same from to fl) (sym (group-past a k n columns count sets fl (omega arith)))
           (same-self from to fl)
 
-  pub filed-length : length (filed a k n columns count mark sets fl) ≡ length fl
+  pub filed-length : length (filed a k n columns count sets fl) ≡ length fl
   filed-length = filed-same .long
 
   -- and so is the value at a place that is neither the mark's nor one of the three slots'
   abbrev Apart : ℕ → Type 0
   Apart q = (q ≡ markPlace k n → ⊥) × ((i : ℕ) → i < 3 → q ≡ slotPlace k n i → ⊥)
 
-  filed-apart : (q : ℕ) → (n < 256 → Apart q) → readAt (filed a k n columns count mark sets fl) q ≡ readAt fl q
+  filed-apart : (q : ℕ) → (n < 256 → Apart q) → readAt (filed a k n columns count sets fl) q ≡ readAt fl q
   filed-apart q d = ⊎-elim (λ h. inside h (d h)) past (le-or (suc n) 256)
     where
-      inside : n < 256 → Apart q → readAt (filed a k n columns count mark sets fl) q ≡ readAt fl q
+      inside : n < 256 → Apart q → readAt (filed a k n columns count sets fl) q ≡ readAt fl q
       inside h d =
-          ap (λ l. readAt l q) (whole h) ∙ with-other three (markPlace k n) mark q (d .0)
+          ap (λ l. readAt l q) (whole h) ∙ with-other three (markPlace k n) filledMark q (d .0)
           ∙ slot-other a k n 2 columns count sets two q (d .1 2 (omega arith))
           ∙ slot-other a k n 1 columns count sets one q (d .1 1 (omega arith))
           ∙ slot-other a k n 0 columns count sets fl q (d .1 0 (omega arith))
 
-      past : 256 < suc n → readAt (filed a k n columns count mark sets fl) q ≡ readAt fl q
-      past h = ap (λ l. readAt l q) (group-past a k n columns count mark sets fl (omega arith))
+      past : 256 < suc n → readAt (filed a k n columns count sets fl) q ≡ readAt fl q
+      past h = ap (λ l. readAt l q) (group-past a k n columns count sets fl (omega arith))
 
   -- every other group of the block tells what it told
   pub filed-other : (m : ℕ) → (m ≡ n → ⊥)
-      → (isFiled (filed a k n columns count mark sets fl) k m ≡ isFiled fl k m)
+      → (isFiled (filed a k n columns count sets fl) k m ≡ isFiled fl k m)
       × ((i : ℕ) → i < 3
-      → readAt (filed a k n columns count mark sets fl) (slotPlace k m i) ≡ readAt fl (slotPlace k m i))
-      × (m < 256 → readAt (filed a k n columns count mark sets fl) (markPlace k m) ≡ readAt fl (markPlace k m))
-  filed-other m h = (⊎-elim inside past (le-or (suc m) 256), read, marked)
+      → readAt (filed a k n columns count sets fl) (slotPlace k m i) ≡ readAt fl (slotPlace k m i))
+  filed-other m h = (⊎-elim inside past (le-or (suc m) 256), read)
     where
-      marked : m < 256 → readAt (filed a k n columns count mark sets fl) (markPlace k m) ≡ readAt fl (markPlace k m)
+      marked : m < 256 → readAt (filed a k n columns count sets fl) (markPlace k m) ≡ readAt fl (markPlace k m)
       marked l = filed-apart (markPlace k m) (λ g. (λ e. h (omega arith), λ i d e. omega arith))
 
       read : (i : ℕ) → i < 3
-          → readAt (filed a k n columns count mark sets fl) (slotPlace k m i) ≡ readAt fl (slotPlace k m i)
+          → readAt (filed a k n columns count sets fl) (slotPlace k m i) ≡ readAt fl (slotPlace k m i)
       read i l = filed-apart (slotPlace k m i) (λ g. (λ e. omega arith, λ j d e. h (omega arith)))
 
-      inside : m < 256 → isFiled (filed a k n columns count mark sets fl) k m ≡ isFiled fl k m
-      inside l = filed-agree fl (filed a k n columns count mark sets fl) k m (marked l)
+      inside : m < 256 → isFiled (filed a k n columns count sets fl) k m ≡ isFiled fl k m
+      inside l = filed-agree fl (filed a k n columns count sets fl) k m (marked l)
 
-      past : 256 < suc m → isFiled (filed a k n columns count mark sets fl) k m ≡ isFiled fl k m
+      past : 256 < suc m → isFiled (filed a k n columns count sets fl) k m ≡ isFiled fl k m
       past l =
-          filed-past (filed a k n columns count mark sets fl) k m (omega arith)
+          filed-past (filed a k n columns count sets fl) k m (omega arith)
           ∙ sym (filed-past fl k m (omega arith))
 
   -- and so does every other block
-  pub filed-region : (j : ℕ) → 1 ≤ k → 1 ≤ j → (j ≡ k → ⊥) → region j (filed a k n columns count mark sets fl) ≡ region
+  pub filed-region : (j : ℕ) → 1 ≤ k → 1 ≤ j → (j ≡ k → ⊥) → region j (filed a k n columns count sets fl) ≡ region
       j fl
   filed-region j h g d =
-      same-region from to fl (filed a k n columns count mark sets fl) j filed-same
+      same-region from to fl (filed a k n columns count sets fl) j filed-same
       (⊎-elim (λ x. inl (omega arith)) (λ x. inr (omega arith)) (le-or j k))
 
   -- the group itself is filled, and tells what the block's slots ask for
   module _ (long : length fl ≡ 8192) (few : k ≤ 4) (h : n < 256) where
-    pub filed-mark : readAt (filed a k n columns count mark sets fl) (markPlace k n) ≡ mark
+    filed-mark : readAt (filed a k n columns count sets fl) (markPlace k n) ≡ filledMark
     filed-mark =
         ap (λ l. readAt l (markPlace k n)) (whole h)
-        ∙ with-read three (markPlace k n) mark (omega (arith, three-same h .long ∙ long))
+        ∙ with-read three (markPlace k n) filledMark (omega (arith, three-same h .long ∙ long))
 
-    pub filed-marked : isFiled (filed a k n columns count mark sets fl) k n ≡ leZ (pos 1) (mark .num)
+    pub filed-marked : isFiled (filed a k n columns count sets fl) k n ≡ true
     filed-marked =
-        filed-in (filed a k n columns count mark sets fl) k n h
+        filed-in (filed a k n columns count sets fl) k n h
         ∙ ap (λ (v : Value). leZ (pos 1) (v .num)) filed-mark
 
     pub filed-slot : (i : ℕ) → i < 3 → (functionAt a (3 * k + i) ≡ 255 → ⊥)
-        → readAt (filed a k n columns count mark sets fl) (slotPlace k n i) ≡ slotValue a k i columns count sets
+        → readAt (filed a k n columns count sets fl) (slotPlace k n i) ≡ slotValue a k i columns count sets
     filed-slot i g e =
         ap (λ l. readAt l (slotPlace k n i)) (whole h)
-        ∙ with-other three (markPlace k n) mark (slotPlace k n i) (λ x. omega arith) ∙ go i g e
+        ∙ with-other three (markPlace k n) filledMark (slotPlace k n i) (λ x. omega arith) ∙ go i g e
       where
         go : (i : ℕ) → i < 3 → (functionAt a (3 * k + i) ≡ 255 → ⊥)
             → readAt three (slotPlace k n i) ≡ slotValue a k i columns count sets

@@ -1,6 +1,6 @@
 -- The laws that other crates cite: AskLaws (`asked-slot`, `few-asked`, `others-in`), SlotLaws (`slots-are`), FileLaws
--- (what the files tell after a block's groups were made empty, and after one was filled), MemoLaws (what a group tells
--- of an evaluation remembered), MarkLaws (what the marks tell of a value that was met). Walks and Cases serve the
+-- (what the files tell after a block's groups were made empty, and after one was filled), MemoLaws (the group of a
+-- value), MarkLaws (what the marks tell of a value that was met). Walks and Cases serve the
 -- functions.
 pub mod Walks
 pub mod Cases

@@ -1,8 +1,7 @@
--- Evaluations remembered, over plain values: the group of a value, what a mark remembers, and what the files then tell.
+-- Values met, over plain values: the group of a value, and numbers as their bits tell them.
 use Prim.Native.Nat.{ℕ, suc, _+_, _-_, _%_, _<_, _^_}
 use native.Mathlib.Omega.{arith}
-use mathlib.Core.Bool.{Bool, true, false, _&&_, _||_}
-use mathlib.Core.List.{List}
+use mathlib.Core.Bool.{Bool, true, false}
 use mathlib.Core.Path.{_≡_, refl, sym, ap, ap₂, _∙_, subst}
 use borrow.Author.Tests.{eq-eqb, ne-eqb, eqb-true, eqb-false, ltb-true, leb-false, le-ltb}
 use lib.Dec.{T, eqb, leb}
@@ -11,15 +10,9 @@ use lib.Signed.{mag, ltZ, leZ, nonNeg}
 use mir.Facts.{toZ-ofZ, toZ-pos}
 use mir.Syntax.{w64}
 use mir.Val.{SFits, Fits, ofZ, toZ}
-use Rattle.groups.specs.Groups.{markPlace}
-use Rattle.model.proofs.Files.{equalZ-eq}
 use Rattle.model.specs.Tables.{natOf}
 use Rattle.model.specs.Value.{compareZ, equalZ}
-use Rattle.rows.specs.Words.{readAt}
-use Rattle.value.specs.declared.Value.{Value}
-use Rattle.filing.specs.Files.{isFiled}
-use Rattle.filing.specs.Memo.{distance, keyGroup, recallBy, recallIn, markOf}
-use Rattle.filing.proofs.Cases.{filed-in}
+use Rattle.filing.specs.Memo.{distance, keyGroup}
 
 -- ---- the group of a value
 pub key-small : (z : ℤ) → keyGroup z < 256
@@ -115,80 +108,3 @@ same-bits (pos m) (pos n) p q = refl
 same-bits (pos m) (negsuc n) p q = ne-eqb m (2 ^ 64 - suc n) (λ e. omega arith)
 same-bits (negsuc m) (pos n) p q = ne-eqb (2 ^ 64 - suc m) n (λ e. omega arith)
 same-bits (negsuc m) (negsuc n) p q = eqb-down (2 ^ 64) m n (omega arith) (omega arith)
-
--- ---- what the files tell of an evaluation
-never : false ≡ true → ⊥
-never e = subst T (sym e) tt
-
-both : (a b : Bool) → (a && b) ≡ true → (a ≡ true) × (b ≡ true)
-both true b e = (refl, e)
-both false b e = absurd (never e)
-
-module _ (fl : List ℤ) (k : ℕ) (z : ℤ) where
-  pub recall-group : recallIn fl k z .group ≡ keyGroup z
-  unfolding recallIn
-  recall-group = refl
-
-  pub recall-trials : recallIn fl k z .trials ≡ natOf (readAt fl (markPlace k (keyGroup z)) .num) - 1
-  unfolding recallIn
-  recall-trials = refl
-
-  pub recall-known : recallIn fl k z .known ≡ true
-      → (isFiled fl k (keyGroup z) ≡ true) × (readAt fl (markPlace k (keyGroup z)) .den ≡ z)
-  unfolding recallIn
-  recall-known e =
-      let mark = readAt fl (markPlace k (keyGroup z)) in
-      let h = both (leZ (pos 1) (mark .num)) (equalZ (mark .den) z) e in
-      (filed-in fl k (keyGroup z) (key-small z) ∙ h .0, equalZ-eq (mark .den) z (h .1))
-
-  -- as calls tell it, to which the value is handed as y
-  pub recall-is : (y : ℤ) (g p t : ℕ) (v : Value) (m s : Bool) → y ≡ z → g ≡ keyGroup y → p ≡ markPlace k g
-      → v ≡ readAt fl p → m ≡ leZ (pos 1) (v .num) → s ≡ equalZ (v .den) y → t ≡ natOf (v .num) - 1
-      → record { group = g; known = m && s; trials = t } ≡ recallIn fl k z
-  unfolding recallIn
-  recall-is y g p t v m s i a b c d e f =
-      let whole : recallBy v z g ≡ recallBy (readAt fl (markPlace k (keyGroup z))) z (keyGroup z) =
-      ap₂ (λ w n. recallBy w z n) (c ∙ ap (readAt fl) (b ∙ ap (markPlace k) here)) here in
-      rw (d, e, f, i) whole
-    where
-      here : g ≡ keyGroup z
-      here = a ∙ ap keyGroup i
-
--- ---- the mark of an evaluation
-module _ (large : Bool) (t : ℕ) (z : ℤ) where
-  pub mark-nothing : (large || leb 4611686018427387904 t) ≡ true → record { num = pos 0; den = pos 1 } ≡ markOf large t
-      z
-  unfolding markOf
-  mark-nothing e = rw e refl
-
-  pub mark-some : (large || leb 4611686018427387904 t) ≡ false → record { num = pos (t + 1); den = z } ≡ markOf large t
-      z
-  unfolding markOf
-  mark-some e = rw e refl
-
-  pub mark-few : (large || leb 4611686018427387904 t) ≡ false → t + 1 < 2 ^ 63
-  mark-few = go large
-    where
-      go : (l : Bool) → (l || leb 4611686018427387904 t) ≡ false → t + 1 < 2 ^ 63
-      go true e = absurd (never (sym e))
-      go false e = omega (arith, leb-false 4611686018427387904 t e)
-
-  -- as the fields' bits tell them
-  pub mark-bits : mag z < 2 ^ 63 → (large || leb 4611686018427387904 t) ≡ false
-      → record { num = toZ w64 (t + 1); den = toZ w64 (ofZ w64 z) } ≡ markOf large t z
-  mark-bits f e = rw (toZ-pos w64 (mark-few e), toZ-ofZ {w = w64} {z = z} (record { sfits = f })) (mark-some e)
-
-  nothing : (large || leb 4611686018427387904 t) ≡ true → leZ (pos 1) (markOf large t z .num) ≡ true → ⊥
-  nothing h e =
-      never (ap (λ (v : Value). leZ (pos 1) (v .num)) (mark-nothing h) ∙ e)
-
-  -- a mark that tells of a filled group has the trials and the value
-  pub mark-filed : leZ (pos 1) (markOf large t z .num) ≡ true
-      → (large ≡ false) × (markOf large t z ≡ record { num = pos (t + 1); den = z })
-  mark-filed = go large (leb 4611686018427387904 t) refl refl
-    where
-      go : (l b : Bool) → large ≡ l → leb 4611686018427387904 t ≡ b → leZ (pos 1) (markOf large t z .num) ≡ true
-          → (large ≡ false) × (markOf large t z ≡ record { num = pos (t + 1); den = z })
-      go true b i j e = absurd (nothing (rw i refl) e)
-      go false true i j e = absurd (nothing (rw (i, j) refl) e)
-      go false false i j e = (i, sym (mark-some (rw (i, j) refl)))

@@ -8,8 +8,9 @@
 --   told g                     the value of aggregate g, 0/0 where there is none
 --   slotValue a k i m n s      what slot i of block k asks for, of the set of n rows and m columns in the words s
 --   slotFiled a k g i m n s fl that value put into slot i of group g, fl itself where the slot asks for nothing
---   slotsFiled a k g m n s fl  the three slots of group g filled; filed a k g m n v s fl: these, and the mark v; fl
---                              itself where g is past 255
+--   slotsFiled a k g m n s fl  the three slots of group g filled; filed a k g m n s fl: these, and the mark; fl itself
+--                              where g is past 255
+--   filledMark                 the mark of a filled group
 --   region k fl                the words of the region of block k
 use Prim.Native.Nat.{ℕ, _+_, _*_, _-_, min}
 use mathlib.Core.Bool.{Bool, false, cond}
@@ -61,9 +62,12 @@ slotsFiled a k n columns count sets fl =
     slotFiled a k n 2 columns count sets
     (slotFiled a k n 1 columns count sets (slotFiled a k n 0 columns count sets fl))
 
-unfoldable pub filed : Asked → (k n columns count : ℕ) → Value → List ℤ → List ℤ → List ℤ
-filed a k n columns count mark sets fl =
-    cond (ltb n 256) (wordsWith (slotsFiled a k n columns count sets fl) (markPlace k n) mark) fl
+abbrev pub filledMark : Value
+filledMark = record { num = pos 1; den = pos 1 }
+
+unfoldable pub filed : Asked → (k n columns count : ℕ) → List ℤ → List ℤ → List ℤ
+filed a k n columns count sets fl =
+    cond (ltb n 256) (wordsWith (slotsFiled a k n columns count sets fl) (markPlace k n) filledMark) fl
 
 unfoldable pub region : ℕ → List ℤ → List ℤ
 region k fl = take 2048 (drop (wordsBefore k) fl)

@@ -14,10 +14,9 @@ ghost use mathlib.Core.Path.{_≡_};
 ghost use Rattle.limits.specs.Limits.{othersIn};
 ghost use Rattle.filing.specs.Asks.{noAsked, askAll};
 ghost use Rattle.filing.specs.Files.{isFiled, emptied, filed};
-ghost use Rattle.filing.specs.Memo.{recallIn, markOf, markIn, metMark};
+ghost use Rattle.filing.specs.Memo.{markIn, metMark};
 
-// What a block's group tells of an evaluation at a value: which group, whether it remembers one, and the trials it
-// took.
+// What marks tell of a value: its group, whether it is marked, and the trials told.
 pub struct Memory {
     pub group: usize,
     pub known: bool,
@@ -69,44 +68,18 @@ pub fn file_group(
     sets: &[i64],
     columns: usize,
     count: usize,
-    mark: Value,
 )
-    ensures { λ _. ⌜ now (files .exit) ≡ filed a block group columns count mark (now (sets .entry)) (now (files .entry)) ⌝ }
+    ensures { λ _. ⌜ now (files .exit) ≡ filed a block group columns count (now (sets .entry)) (now (files .entry)) ⌝ }
 {
     if group >= 256 {
         return;
     }
     slots::file_slots(files, a, block, group, sets, columns, count);
-    rows::write(files, slots::mark_place(block, group), mark);
-}
-
-// ---- evaluations remembered
-
-// What the files tell of an evaluation of a block at a value.
-pub fn recall(files: &[i64], block: u8, key: i64) -> Memory
-    ensures { λ r. ⌜ r ≡ recallIn (now (files .entry)) block key ⌝ }
-{
-    let group = memo::key_group(key);
-    let mark = rows::read(files, slots::mark_place(block, group));
-    Memory {
-        group: group,
-        known: slots::marked(mark) & memo::has_key(mark, key),
-        trials: memo::less_one(memo::count_in(mark)),
-    }
-}
-
-// The mark of an evaluation at a value; where a set is too large, or the trials pass 62 bits, one that remembers
-// nothing.
-pub fn mark_of(large: bool, trials: u64, key: i64) -> Value
-    ensures { λ r. ⌜ r ≡ markOf large trials key ⌝ }
-{
-    if large | (4611686018427387904 <= trials) {
-        return Value { num: 0, den: 1 };
-    }
-    Value {
-        num: (trials + 1) as i64,
-        den: key,
-    }
+    rows::write(
+        files,
+        slots::mark_place(block, group),
+        Value { num: 1, den: 1 },
+    );
 }
 
 // ---- values met

@@ -1,4 +1,4 @@
-// Evaluations remembered: the group of a value, and what a mark tells.
+// Values met: the group of a value, and what a mark tells.
 use value::Value;
 ghost use mathlib.Core.Path.{_≡_};
 ghost use Prim.Native.Nat.{_-_, _<_};

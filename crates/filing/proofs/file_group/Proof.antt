@@ -9,7 +9,7 @@ use Rattle.filing.proofs.file_group.Tie as tie
 returns : tie.Need-returns
 returns c =
     let given = c .before .args in
-    sym (group-past (given .a) (given .block) (given .group) (given .columns) (given .count) (given .mark) (given .sets
+    sym (group-past (given .a) (given .block) (given .group) (given .columns) (given .count) (given .sets
     .now)
     (given .files .now) (omega arith))
 
@@ -31,7 +31,7 @@ returns-2 c =
     let placed = written .before in
     let slots = placed .before .before .before in
     let given = slots .before .before .before .args in
-    group-put (given .a) (given .block) (given .group) (given .columns) (given .count) (given .mark) (given .sets .now)
+    group-put (given .a) (given .block) (given .group) (given .columns) (given .count) (given .sets .now)
     (given .files .now) (slots .file-slots .last .0) (written .write .last .0) (placed .mark-place .result) (omega arith)
     (slots .file-slots .ensures) (placed .mark-place .ensures) (written .write .ensures .1)
 
