@@ -2,10 +2,10 @@
 """The stream of jobs that crate cases runs on standard input: jobs of every number from 0 to 13, from a seed.
 
 `cases_jobs.py` writes it to standard output, `cases_jobs.py --write` to crates/cases/stdin. It holds the question files
-and accepted questions, each under admitted plans of different paths and at budgets about the count; blocks read from
-the cells; sets about 256 rows; the limits on both sides; damaged questions and plans; the largest numerators; buffers
-short, exact and longer; data and questions of the greatest length. Most tables are small: the whole is about two and a
-half megabytes.
+and accepted questions, each under admitted plans of different paths and at budgets about the count; blocks over
+projections of tables; sets about 256 rows; the limits on both sides; damaged questions and plans; the largest
+numerators; buffers short, exact and longer; data and questions of the greatest length. Most tables are small: the whole
+is about two and a half megabytes.
 """
 
 import itertools
@@ -30,7 +30,7 @@ from reader_jobs import faulty_job, planned_job, question_jobs
 
 STDIN = Path(__file__).resolve().parent.parent / "crates" / "cases" / "stdin"
 SEED = 475_001
-ACCEPTED, STEMS, LARGE, CROWDED, GREATEST, AVERAGES, SHORT, TOILSOME = 170, 40, 10, 24, 24, 14, 130, 7
+ACCEPTED, STACKED, LARGE, CROWDED, GREATEST, AVERAGES, SHORT, TOILSOME = 170, 40, 10, 24, 24, 14, 130, 7
 OF_EACH_FAULT, OF_TWO, OF_THREE, CHANGED, PLANNED = 12, 120, 120, 200, 100
 MOST_PLANS = 6
 LARGE_TRIALS = 40_000           # of a question over large tables, by file
@@ -73,9 +73,9 @@ def question_file_jobs(draw):
             yield from under_plans(draw, job)
 
 
-def stem_jobs(draw):
-    """A question of blocks read from the cells, mostly by index: budget ample, met, missed by one, and twice by more."""
-    draft = generate.stem_draft(draw)
+def stacked_jobs(draw):
+    """A block over projections, mostly by index: budget ample, met, missed by one, and twice by more."""
+    draft = generate.stacked_draft(draw)
     trials = generate.trials_of(draft)
     for budget in [fmt.LISTING_BUDGET, trials, trials - 1, draw.below(trials), draw.below(trials)]:
         yield replace(draft.job(), budget=budget, lengths=lengths(draw))
@@ -196,8 +196,8 @@ def jobs():
                         (lambda d: generate.crowded_draft(d).job(), CROWDED)]:
         for _ in range(count):
             found += under_plans(draw, make(draw))
-    for _ in range(STEMS):
-        found += stem_jobs(draw)
+    for _ in range(STACKED):
+        found += stacked_jobs(draw)
     for make, count in [(greatest_job, GREATEST), (averages_job, AVERAGES), (toilsome_job, TOILSOME),
                         (short_job, SHORT)]:
         found += [make(draw) for _ in range(count)]

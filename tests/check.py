@@ -9,6 +9,7 @@ import sys
 from pathlib import Path as FilePath
 
 import edges
+import edits
 import evaluator
 import format as fmt
 import generate
@@ -242,9 +243,37 @@ def check_programs():
     return f"{len(PROGRAMS)} programs' outputs and {len(INPUTS)} inputs"
 
 
-# --apart leaves out the first, which looks outside this folder
-CHECKS = [check_programs, check_questions, check_edges, check_limits, check_faults, check_stored, check_round_trip,
-          check_plans, check_sqlite]
+def check_edit(edit, crate):
+    """One wrong program: each old text stands once in the file it is meant for, after the replacements before it, and
+    the new text differs."""
+    name, texts = edit.relative_to(HERE.parent), {}
+    for file, old, new in edits.pairs_of(edit):
+        parts = file.split("/")
+        if parts[0] not in ("src", "specs", "proofs") or ".." in parts or not (crate / file).is_file():
+            raise Differs(f"{name}: crates/{crate.name} has no file {file!r} that can be edited")
+        text = texts.get(file) or (crate / file).read_text()
+        same(f"{name}: how often {file} has {old!r}", text.count(old) if old else 0, 1)
+        if new == old:
+            raise Differs(f"{name}: the new text is the old one, {old!r}")
+        texts[file] = text.replace(old, new)
+    if not texts:
+        raise Differs(f"{name} replaces nothing")
+
+
+def check_edits():
+    """The wrong programs of the gate, and those that edits.py tries, can be made from the crates as they are."""
+    crates = HERE.parent / "crates"
+    gate, others = sorted(crates.glob("*/must-fail/*.edit")), sorted(edits.EDITS.glob("*/*.edit"))
+    for edit in gate:
+        check_edit(edit, edit.parent.parent)
+    for edit in others:
+        check_edit(edit, crates / edit.parent.name)
+    return f"{len(gate) + len(others)} edits, {len(gate)} of them in the gate,"
+
+
+# --apart leaves out the first two, which look outside this folder
+CHECKS = [check_edits, check_programs, check_questions, check_edges, check_limits, check_faults, check_stored,
+          check_round_trip, check_plans, check_sqlite]
 
 
 def write():
@@ -261,7 +290,7 @@ def main(arguments):
         return write()
     if arguments not in ([], ["--apart"]):
         sys.exit("usage: check.py | check.py --apart | check.py --write")
-    for check in CHECKS[1:] if arguments else CHECKS:
+    for check in CHECKS[2:] if arguments else CHECKS:
         try:
             print(f"{check.__name__[6:]}: {check()} agree", flush=True)
         except Differs as difference:

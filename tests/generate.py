@@ -1,5 +1,5 @@
-"""Jobs at random from a seed: accepted questions with all admitted plans, values that come again, blocks read from the
-cells, crowded sets, limits, damaged jobs.
+"""Jobs at random from a seed: accepted questions with all admitted plans, values that come again, projections of tables
+and blocks over them, crowded sets, limits, damaged jobs.
 
 Command line: `generate.py jobs SEED COUNT > stream`, `generate.py indexes SEED COUNT > index stream`; the answers
 are `evaluator.py answers < stream` and `evaluator.py indexes < index stream`. `generate.py limits > stream` has the
@@ -22,7 +22,7 @@ from naive.trials import Spent, Trials
 MOST_TRIALS = 4_000         # of a generated question by file
 DEEPEST_LEVEL = 4
 SMALL = [-1, 0, 0, 1, 1, 1, 2, 2, 3]
-SHARING = [0, 0, 256, -1, 1, 1, 1, 257, 257, -2]    # remembered in one place: 0, 256 and -1; 1, 257 and -2
+SHARING = [0, 0, 256, -1, 1, 1, 1, 257, 257, -2]    # values that share a mark: 0, 256 and -1; 1, 257 and -2
 TOP_ROWS = [0, 1, 1, 1, 2, 2, 2, 3], [1, 2, 2, 2, 3]            # how many relation rows: block 0 with children, without
 BELOW_ROWS = [0, 1, 1, 1, 1, 2, 3], [1, 1, 1, 1, 2, 2, 3]       # .. every other block
 
@@ -207,7 +207,7 @@ def random_draft(draw):
     if draw.chance(20):
         return followed_draft(draw)
     if draw.chance(12):
-        return stem_draft(draw)
+        return stacked_draft(draw)
     while True:
         tables = random_tables(draw)
         draft = Draft(tables, QuestionMaker(draw, tables).make())
@@ -261,9 +261,9 @@ def use_again(draw, top, each, variable, use):
         each.conditions.append((operator, *draw.shuffled([fixed, constant])))
 
 
-def stem_draft(draw):
-    """Three levels, tanks, their pans, and samples and weights of a pan: most blocks but the first can be read from the
-    cells of their tables, and pans and tanks come again."""
+def stacked_draft(draw):
+    """Three levels, tanks, their pans, and samples and weights of a pan: the rows of most leaf blocks are a
+    projection of their table, and pans and tanks come again."""
     tanks, keys = draw.one_of([[1, 2], [0, 1, 2]]), draw.one_of([[1, 2], [1, 2, 3], [0, 256, -1], [1, 257, -2, 64]])
     tables = [(1, [[draw.one_of(tanks)] for _ in range(draw.between(2, 4))]),
               (3, [[draw.one_of(keys), draw.one_of(tanks), draw.one_of(keys)] for _ in range(draw.between(3, 7))])]
@@ -277,7 +277,7 @@ def stem_draft(draw):
         return table, [entries[old] for old in places[table]]
 
     var, fixed, empty = (lambda n: (fmt.VARIABLE, n)), (lambda n: (fmt.FIXED, n)), (fmt.EMPTY, 0)
-    odd = draw.below(16)                        # 0 to 5: something that is not read so
+    odd = draw.below(16)                        # 0 to 5: something that is no projection
     shelf = var(1) if odd == 0 else var(2)      # the pan twice in its row
     middle = fmt.BlockText(0, [row(1, [var(1), fixed(0), shelf])])
     samples = fmt.BlockText(1, [row(2, [fixed(0) if odd == 1 else fixed(1), var(3),

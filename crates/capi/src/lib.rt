@@ -71,14 +71,14 @@ pub extern "C" fn abe_run(
     a.number
 }
 
-// The index of a column (tables::index), a table or column past 255 being absent.
+// The index of a column (indexes::index), a table or column past 255 being absent.
 #[no_mangle]
 pub extern "C" fn abe_index(words: &[i32], table: u32, column: u32, out: &mut [u16]) -> u8
     ensures number { λ r. ⌜ r ≡ indexNumber (now (words .entry)) table column (length (now (out .entry))) ⌝ }
     ensures words { λ _. ⌜ now (out .exit) ≡ indexAfter (now (words .entry)) table column (now (out .entry)) ⌝ }
 {
     if (table < 256) & (column < 256) {
-        return tables::index(words, table as u8, column as u8, out);
+        return indexes::index(words, table as u8, column as u8, out);
     }
     let number = tables::check(words);
     if number != 0 {

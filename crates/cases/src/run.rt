@@ -1,5 +1,5 @@
 // One job run: buffers of the lengths asked for are lent, and every word of them is looked at afterwards.
-use crate::buffers;
+use crate::lent;
 use crate::parts;
 use crate::print;
 ghost use Prim.Native.Nat.{_≤_};
@@ -64,10 +64,10 @@ fn lend(
     indexes: &mut [u16],
     result: &mut [i64],
 ) -> model::Answer {
-    let n = buffers::cut(l.sets, sets);
-    let m = buffers::cut(l.files, files);
-    let k = buffers::cut_indexes(l.indexes, indexes);
-    let r = buffers::cut(l.result, result);
+    let n = lent::cut(l.sets, sets);
+    let m = lent::cut(l.files, files);
+    let k = lent::cut_indexes(l.indexes, indexes);
+    let r = lent::cut(l.result, result);
     engine::run(
         words,
         question,
@@ -88,10 +88,10 @@ fn is_right(
     indexes: &[u16],
     result: &[i64],
 ) -> bool {
-    buffers::zeroed(sets, zeros(a.number, 8192))
-        & buffers::zeroed(files, zeros(a.number, 8192))
-        & buffers::zeroed_indexes(indexes, zeros(a.number, 1280))
-        & buffers::kept(result, taken(a))
+    lent::zeroed(sets, zeros(a.number, 8192))
+        & lent::zeroed(files, zeros(a.number, 8192))
+        & lent::zeroed_indexes(indexes, zeros(a.number, 1280))
+        & lent::kept(result, taken(a))
 }
 
 // The answer, and a line where a buffer is not right.
@@ -104,10 +104,10 @@ fn tell(a: model::Answer, sets: &[i64], files: &[i64], indexes: &[u16], result: 
 
 // Every buffer as it is before a run.
 fn fill(sets: &mut [i64], files: &mut [i64], indexes: &mut [u16], result: &mut [i64]) {
-    buffers::fill(sets);
-    buffers::fill(files);
-    buffers::fill_indexes(indexes);
-    buffers::fill(result);
+    lent::fill(sets);
+    lent::fill(files);
+    lent::fill_indexes(indexes);
+    lent::fill(result);
 }
 
 // A run with these buffers, and what is told of it.

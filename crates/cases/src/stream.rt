@@ -1,6 +1,6 @@
 // The jobs of the stream on standard input, one after another: parts DA, QU, PN and BU, to its end. A function here
 // answers 0 where it has run a job, 1 where the stream had ended, and 2 where it is malformed.
-use crate::buffers;
+use crate::lent;
 use crate::parts;
 use crate::print;
 use crate::run;
@@ -45,7 +45,7 @@ fn with_data(s: &[u8]) -> u8 {
     }
     let mut words: [i32; 16385] = [0; 16385];
     let k = job::words_of(s, &mut words);
-    let n = buffers::cut_data(k, &words);
+    let n = lent::cut_data(k, &words);
     with_words(&words[..n])
 }
 

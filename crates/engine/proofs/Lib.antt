@@ -1,4 +1,5 @@
 pub mod SettleLaws
 pub mod RefusalSteps
+pub mod PrepareSteps
 pub mod RunSteps
 pub mod RunsAgree

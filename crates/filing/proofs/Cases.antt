@@ -14,8 +14,8 @@ use Rattle.groups.specs.Asking.{functionAt, columnAt}
 use Rattle.groups.specs.Groups.{markPlace, slotPlace}
 use Rattle.groups.specs.declared.Asked.{Asked}
 use Rattle.groups.proofs.GroupLaws.{default-inside, default-past}
-use Rattle.rows.specs.Columns.{aggregateIn}
-use Rattle.rows.specs.Words.{readAt, wordsWith, wordsZeroed}
+use Rattle.aggregates.specs.Columns.{aggregateIn}
+use Rattle.words.specs.Words.{readAt, wordsWith, wordsZeroed}
 use Rattle.value.specs.declared.Value.{Value}
 use Rattle.filing.specs.Files.{isFiled, wordsBefore, wordsIn, emptied, told, slotValue, slotFiled}
 use Rattle.filing.specs.Files.{slotsFiled, filledMark, filed}

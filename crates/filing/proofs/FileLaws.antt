@@ -16,10 +16,10 @@ use Rattle.groups.specs.Asking.{functionAt, columnAt}
 use Rattle.groups.specs.Groups.{markPlace, slotPlace}
 use Rattle.groups.specs.declared.Asked.{Asked}
 use Rattle.model.proofs.ListEquations.{overwrite-is}
-use Rattle.rows.proofs.WordLaws.{length-with, get-put, read-in, write-past, write-in, zeroed}
-use Rattle.rows.specs.Columns.{aggregateIn}
-use Rattle.rows.specs.Words.{roomOf, withValue, readAt, wordsWith, wordsZeroed}
-use Rattle.rows.specs.declared.Aggregate.the-variants.{Of}
+use Rattle.words.proofs.WordLaws.{length-with, get-put, read-in, write-past, write-in, zeroed}
+use Rattle.aggregates.specs.Columns.{aggregateIn}
+use Rattle.words.specs.Words.{roomOf, withValue, readAt, wordsWith, wordsZeroed}
+use Rattle.aggregates.specs.declared.Aggregate.the-variants.{Of}
 use Rattle.syntax.proofs.Elements.{le-or}
 use Rattle.value.specs.declared.Value.{Value}
 use Rattle.filing.specs.Files.{isFiled, filledMark, wordsBefore, wordsIn, emptied, told, slotValue, slotFiled}

@@ -19,20 +19,21 @@ use lib.Dec.{eqb, ltb, leb}
 use lib.IntN.{ℤ, pos}
 use lib.ListN.{length, take, drop}
 use lib.Signed.{leZ}
+use Rattle.buffers.specs.Parts.{filePart}
 use Rattle.groups.specs.Asking.{functionAt, columnAt}
 use Rattle.groups.specs.Groups.{markPlace, slotPlace}
 use Rattle.groups.specs.declared.Asked.{Asked}
-use Rattle.rows.specs.Columns.{aggregateIn}
-use Rattle.rows.specs.Words.{readAt, wordsWith, wordsZeroed}
-use Rattle.rows.specs.declared.Aggregate.{Aggregate}
-use Rattle.rows.specs.declared.Aggregate.the-variants.{Of, Outside, Refused}
+use Rattle.aggregates.specs.Columns.{aggregateIn}
+use Rattle.words.specs.Words.{readAt, wordsWith, wordsZeroed}
+use Rattle.aggregates.specs.declared.Aggregate.{Aggregate}
+use Rattle.aggregates.specs.declared.Aggregate.the-variants.{Of, Outside, Refused}
 use Rattle.value.specs.declared.Value.{Value}
 
 unfoldable pub isFiled : List ℤ → ℕ → ℕ → Bool
 isFiled fl k n = cond (ltb n 256) (leZ (pos 1) (readAt fl (markPlace k n) .num)) false
 
 abbrev pub wordsBefore : ℕ → ℕ
-wordsBefore k = 2048 * (k - 1)
+wordsBefore k = filePart * (k - 1)
 
 abbrev pub wordsIn : ℕ → ℕ
 wordsIn n = 2 * min n 256
@@ -70,4 +71,4 @@ filed a k n columns count sets fl =
     cond (ltb n 256) (wordsWith (slotsFiled a k n columns count sets fl) (markPlace k n) filledMark) fl
 
 unfoldable pub region : ℕ → List ℤ → List ℤ
-region k fl = take 2048 (drop (wordsBefore k) fl)
+region k fl = take filePart (drop (wordsBefore k) fl)

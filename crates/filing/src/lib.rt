@@ -44,19 +44,19 @@ pub fn is_filed(files: &[i64], block: u8, group: usize) -> bool
     if group >= 256 {
         return false;
     }
-    slots::marked(rows::read(files, slots::mark_place(block, group)))
+    slots::marked(words::read(files, slots::mark_place(block, group)))
 }
 
 // The first groups of a block made empty, by zeroing their marks, if the words have room for these.
 pub fn empty_file(files: &mut [i64], block: u8, groups: usize)
     ensures { λ _. ⌜ now (files .exit) ≡ emptied block groups (now (files .entry)) ⌝ }
 {
-    let at = 2048 * slots::regions_before(block);
+    let at = buffers::FILE_PART * slots::regions_before(block);
     let n = slots::words_in(groups);
     if files.len() < at + n {
         return;
     }
-    rows::zero(&mut files[at..], n);
+    words::zero(&mut files[at..], n);
 }
 
 // A group of a block filled: what its slots ask for, of a set of count rows in the words, and the mark.
@@ -75,7 +75,7 @@ pub fn file_group(
         return;
     }
     slots::file_slots(files, a, block, group, sets, columns, count);
-    rows::write(
+    words::write(
         files,
         slots::mark_place(block, group),
         Value { num: 1, den: 1 },
@@ -89,7 +89,7 @@ pub fn recall_mark(marks: &[i64], key: i64) -> Memory
     ensures { λ r. ⌜ r ≡ markIn (now (marks .entry)) key ⌝ }
 {
     let group = memo::key_group(key);
-    let met = rows::read(marks, group);
+    let met = words::read(marks, group);
     Memory {
         group: group,
         known: slots::marked(met) & memo::has_key(met, key),

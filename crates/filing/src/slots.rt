@@ -1,15 +1,15 @@
 // The places of a block's marks and slots in the files, and the slots of a group filled.
 use crate::walk::size;
+use aggregates::Aggregate;
 use groups::Asked;
-use rows::Aggregate;
 use value::Value;
 ghost use mathlib.Core.Path.{_≡_};
 ghost use Prim.Native.Nat.{_-_, _<_, _≤_};
 ghost use lib.IntN.{pos};
 ghost use lib.Signed.{leZ};
 ghost use Rattle.groups.specs.Groups.{markPlace, slotPlace};
-ghost use Rattle.rows.specs.Columns.{aggregateIn};
-ghost use Rattle.rows.specs.Words.{wordsWith};
+ghost use Rattle.aggregates.specs.Columns.{aggregateIn};
+ghost use Rattle.words.specs.Words.{wordsWith};
 ghost use Rattle.filing.specs.Files.{wordsIn, told, slotsFiled};
 
 // How many regions lie before that of a block; block 0 has that of block 1.
@@ -27,7 +27,7 @@ pub(crate) fn mark_place(block: u8, group: usize) -> usize
     requires { ⌜ group < 256 ⌝ }
     ensures { λ r. ⌜ r ≡ markPlace block group ⌝ }
 {
-    1024 * regions_before(block) + group
+    buffers::FILE_PLACES * regions_before(block) + group
 }
 
 // The place of the first slot of a block's group: the slots of all groups follow the 256 marks.
@@ -35,7 +35,7 @@ pub(crate) fn slot_place(block: u8, group: usize) -> usize
     requires { ⌜ group < 256 ⌝ }
     ensures { λ r. ⌜ (r ≡ slotPlace block group 0) × (r < 1000000) ⌝ }
 {
-    1024 * regions_before(block) + 256 + 3 * group
+    buffers::FILE_PLACES * regions_before(block) + 256 + 3 * group
 }
 
 // The words of the marks of a number of groups, 256 at most.
@@ -79,8 +79,8 @@ pub(crate) fn put_slot(
     ensures { λ _. ⌜ now (files .exit) ≡ wordsWith (now (files .entry)) place
         (told (aggregateIn function column n count (now (sets .entry)))) ⌝ }
 {
-    let v = told_by(rows::aggregate_of(sets, n, count, function, size(column)));
-    rows::write(files, place, v);
+    let v = told_by(aggregates::aggregate_of(sets, n, count, function, size(column)));
+    words::write(files, place, v);
 }
 
 // What the slots of a block ask for, of a set of count rows of n columns in the words, put into the slots of a group; a

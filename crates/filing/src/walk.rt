@@ -3,6 +3,7 @@
 use groups::Asked;
 use syntax::Block;
 use syntax::byte_at;
+use syntax::condition_end;
 ghost use mathlib.Core.Path.{_≡_};
 ghost use Prim.Native.Nat.{_+_, _≤_, _<_};
 ghost use lib.ListN.{length};
@@ -96,7 +97,7 @@ pub(crate) fn ask_conditions(s: &[u8], at: usize, n: usize, a: Asked) -> Asked
     let mut more = n;
     while (more > 0) & (i < s.len()) {
         y = ask_at(s, i + 12, ask_at(s, i + 3, y));
-        i += 21;
+        i = condition_end(s, i);
         more -= 1;
     }
     y

@@ -7,10 +7,11 @@ use mathlib.Core.List.{List, [], _∷_}
 use mathlib.Core.Path.{_≡_, refl, sym, ap, ap₂, _∙_}
 use borrow.Author.Tests.{ltb-true}
 use lib.Dec.{eqb, ltb}
-use lib.IntN.{ℤ, pos}
+use lib.IntN.{ℤ}
 use lib.ListN.{length, getD}
-use Rattle.rows.specs.Words.{readAt}
+use Rattle.words.specs.Words.{readAt}
 use Rattle.syntax.proofs.Laws.{both}
+use Rattle.value.specs.Exact.{emptyOf}
 use Rattle.value.specs.declared.Value.{Value}
 use Rattle.groups.specs.Asking.{asking, functionAt, columnAt, asksAt, slotOf}
 use Rattle.groups.specs.Groups.{grouping, groupOf, slotPlace, aggregateAt}
@@ -84,7 +85,7 @@ module _ (a : Asked) (k f c : ℕ) (fs : length (a .functions) ≡ 15) (cs : len
 pub told : (n m : ℕ) → ltb n 256 && ltb m 3 ≡ true → (n < 256) × (m < 3)
 told n m e = let b = both (ltb n 256) (ltb m 3) e in (ltb-true n 256 (b .0), ltb-true m 3 (b .1))
 
--- the value that a group tells, and zero where it tells none
+-- the value that a group tells, and that of an empty set where it tells none
 module _ (a : Asked) (fl : List ℤ) (g : Groups) (f k c : ℕ) where
   pub aggregate-told : (n m p : ℕ) (v : Value) → n ≡ groupOf g k → m ≡ slotOf a k f c → p ≡ slotPlace k n m
       → ltb n 256 && ltb m 3 ≡ true → v ≡ readAt fl p → v ≡ aggregateAt a fl g f k c
@@ -92,7 +93,7 @@ module _ (a : Asked) (fl : List ℤ) (g : Groups) (f k c : ℕ) where
   aggregate-told n m p v dn dm dp e h = rw (sym dn, sym dm, e) (h ∙ ap (readAt fl) dp)
 
   pub aggregate-none : (n m : ℕ) → n ≡ groupOf g k → m ≡ slotOf a k f c → ltb n 256 && ltb m 3 ≡ false
-      → record { num = pos 0; den = pos 1 } ≡ aggregateAt a fl g f k c
+      → emptyOf f ≡ aggregateAt a fl g f k c
   unfolding aggregateAt
   aggregate-none n m dn dm e = rw (sym dn, sym dm, e) refl
 

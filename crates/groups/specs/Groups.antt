@@ -5,14 +5,17 @@
 --   groupOf g k                the group that tells of block k, 256 past the fifth
 --   markPlace k n              the place of the mark of group n of block k
 --   slotPlace k n i            the place of the value of its slot i
---   aggregateAt a fl g f k c   function f of column c of block k's set, as its group tells; zero where there is none
+--   aggregateAt a fl g f k c   function f of column c of block k's set, as its group tells; where there is none,
+--                              that of an empty set
 use Prim.Native.Nat.{ℕ, _+_, _*_, _-_}
 use mathlib.Core.Bool.{Bool, _&&_, cond}
 use mathlib.Core.List.{List}
 use lib.Dec.{ltb}
-use lib.IntN.{ℤ, pos}
+use lib.IntN.{ℤ}
 use lib.ListN.{getD}
-use Rattle.rows.specs.Words.{readAt}
+use Rattle.buffers.specs.Parts.{filePlaces}
+use Rattle.words.specs.Words.{readAt}
+use Rattle.value.specs.Exact.{emptyOf}
 use Rattle.value.specs.declared.Value.{Value}
 use Rattle.groups.specs.Asking.{slotOf}
 use Rattle.groups.specs.declared.Asked.{Asked}
@@ -25,13 +28,13 @@ abbrev pub groupOf : Groups → ℕ → ℕ
 groupOf g k = getD (g .at) k 256
 
 abbrev pub markPlace : ℕ → ℕ → ℕ
-markPlace k n = 1024 * (k - 1) + n
+markPlace k n = filePlaces * (k - 1) + n
 
 abbrev pub slotPlace : ℕ → ℕ → ℕ → ℕ
-slotPlace k n i = 1024 * (k - 1) + 256 + 3 * n + i
+slotPlace k n i = filePlaces * (k - 1) + 256 + 3 * n + i
 
 unfoldable pub aggregateAt : Asked → List ℤ → Groups → ℕ → ℕ → ℕ → Value
 aggregateAt a fl g f k c =
     cond (ltb (groupOf g k) 256 && ltb (slotOf a k f c) 3)
     (readAt fl (slotPlace k (groupOf g k) (slotOf a k f c)))
-    (record { num = pos 0; den = pos 1 })
+    (emptyOf f)

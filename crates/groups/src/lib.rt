@@ -1,7 +1,7 @@
 // The aggregate files (01, "work buffer": 8,192 words for aggregate files): for each of blocks 1 to 4 a region of 256
 // groups, a group being a mark and the three aggregates that may name the block; the marks of all groups lie first, and
 // the aggregates follow, three for each group. Which aggregates these are is told by the question, once. Every function
-// takes every number: a group past 255 has no values, and there an aggregate is zero, as of an empty set.
+// takes every number: a group past 255 has no values, and there an aggregate is that of an empty set.
 use value::Value;
 ghost use Prim.Native.Nat.{_<_};
 ghost use mathlib.Core.Path.{_≡_};
@@ -91,7 +91,7 @@ fn slot_place(block: u8, group: usize, slot: usize) -> usize
     if block == 0 {
         return 256 + 3 * group + slot;
     }
-    1024 * (wide(block) - 1) + 256 + 3 * group + slot
+    buffers::FILE_PLACES * (wide(block) - 1) + 256 + 3 * group + slot
 }
 
 // The function of a column of a block's set, as the block's group tells it: functions and columns are what the
@@ -110,15 +110,16 @@ pub fn aggregate_in<'a>(
         → r ≡ aggregateAt (asking (now (functions .entry)) (now (columns .entry))) (now (files .entry))
         (grouping (now (groups .entry))) function block column) ⌝ }
 {
+    let none = value::empty_of(function);
     let k = wide(block);
     if k < 5 {
         let group = groups[k];
         let slot = slot_among(functions, columns, k, function, column);
         if (group < 256) & (slot < 3) {
-            return rows::read(files, slot_place(block, group, slot));
+            return words::read(files, slot_place(block, group, slot));
         }
     }
-    Value { num: 0, den: 1 }
+    none
 }
 
 // The function of a column of a block's set, as the block's group tells it.

@@ -13,10 +13,11 @@ use borrow.Author.Tests.{lt-ltb, le-ltb, lt-leb, le-leb, ltb-true, ltb-false}
 use Rattle.model.specs.Checks.{fromTo}
 use Rattle.model.specs.Lists.{concatMap}
 use Rattle.model.specs.Question.{Element, otherElements}
+use Rattle.syntax.proofs.Conditions.{past-stays, conditions-next}
 use Rattle.syntax.proofs.Elements.{le-or}
 use Rattle.syntax.proofs.Laws.{byte-past, both, on}
 use Rattle.syntax.specs.Described.{decode, elementAt, elementsAt, conditionAt, conditionsAt, described, blocksIn}
-use Rattle.syntax.specs.Places.{byteAt, wordAt, recordEnd, noBlock}
+use Rattle.syntax.specs.Places.{byteAt, wordAt, conditionEnd, noBlock}
 use Rattle.syntax.specs.declared.Block.{Block}
 use Rattle.syntax.specs.declared.Question.{Question}
 use Rattle.limits.specs.Limits.{othersIn, fewNamed, withinIn}
@@ -92,17 +93,12 @@ module _ (bs : List ℕ) where
   elements-done t (suc n) i e =
       ⊎-elim (λ h. absurd (omega arith)) (λ h. elements-past t (suc n) i h) (stopped (suc n) i (length bs) e)
 
-  condition-end : (i : ℕ) → recordEnd 1 bs i ≡ i + 21
-  unfolding recordEnd
-  condition-end i = omega arith
-
   pub conditions-turn : (t : Tally) (n i : ℕ) → 0 < n
       → tallyAll t (concatMap sides (conditionsAt bs n i))
       ≡ tallyAll (tallyOf (tallyOf t (elementAt bs (i + 3))) (elementAt bs (i + 12)))
-      (concatMap sides (conditionsAt bs (n - 1) (i + 21)))
-  unfolding tallyAll conditionsAt conditionAt concatMap
-  conditions-turn t zero i h = absurd (omega arith)
-  conditions-turn t (suc n) i h = let p : suc n - 1 ≡ n = omega arith in simp (p, condition-end i)
+      (concatMap sides (conditionsAt bs (n - 1) (conditionEnd bs i)))
+  unfolding tallyAll conditionAt concatMap
+  conditions-turn t n i h = ap (λ l. tallyAll t (concatMap sides l)) (conditions-next bs n i h)
 
   conditions-past : (t : Tally) (n i : ℕ) → length bs ≤ i → tallyAll t (concatMap sides (conditionsAt bs n i)) ≡ t
   unfolding tallyAll conditionsAt concatMap
@@ -111,7 +107,7 @@ module _ (bs : List ℕ) where
       conditions-turn t (suc n) i (omega arith)
       ∙ (let p : suc n - 1 ≡ n = omega arith in
       rw (p, past t (i + 3) (omega arith), past t (i + 12) (omega arith))
-      (conditions-past t n (i + 21) (omega arith)))
+      (conditions-past t n (conditionEnd bs i) (past-stays bs i h)))
 
   pub conditions-done : (t : Tally) (n i : ℕ) → ltb 0 n && ltb i (length bs) ≡ false
       → tallyAll t (concatMap sides (conditionsAt bs n i)) ≡ t

@@ -5,6 +5,7 @@
 use syntax::Block;
 use syntax::Question;
 use syntax::byte_at;
+use syntax::condition_end;
 ghost use mathlib.Core.Path.{_≡_};
 ghost use Prim.Native.Nat.{_+_, _≤_, _<_};
 ghost use lib.ListN.{length};
@@ -89,7 +90,7 @@ fn count_conditions(s: &[u8], at: usize, n: usize, t: Tally) -> Tally
     let mut more = n;
     while (more > 0) & (i < s.len()) {
         y = count_at(s, i + 12, count_at(s, i + 3, y));
-        i += 21;
+        i = condition_end(s, i);
         more -= 1;
     }
     y

@@ -2,27 +2,15 @@
 use Prim.Native.Nat.{ℕ, zero, suc, _+_, _≤_, _<_}
 use native.Mathlib.Omega.{arith}
 use mathlib.Core.Bool.{Bool, true, false}
-use mathlib.Core.List.{List, [], _∷_}
-use mathlib.Core.Path.{_≡_, refl, sym, ap, subst, _∙_}
+use mathlib.Core.List.{List}
+use mathlib.Core.Path.{_≡_, refl, sym, subst, _∙_}
 use lib.Dec.{eqb}
 use lib.ListN.{length, getD, set, replicate, length-set}
+use lib.Seq.{getD-set-same, getD-set-other}
 use Rattle.outline.specs.Outlines.{Outlined}
 use Rattle.outline.specs.declared.Outline.{Outline}
 use Rattle.syntax.specs.declared.Question.{Question}
 use borrow.Author.Tests.{eqb-true, eqb-false}
-
-module _ {A : Type 0} where
-  pub get-put : (l : List A) (i : ℕ) (x d : A) → i < length l → getD (set l i x) i d ≡ x
-  get-put [] i x d h = absurd (omega arith)
-  get-put (y ∷ l) zero x d h = refl
-  get-put (y ∷ l) (suc i) x d h = get-put l i x d (omega arith)
-
-  pub get-other : (l : List A) (i j : ℕ) (x d : A) → (j ≡ i → ⊥) → getD (set l i x) j d ≡ getD l j d
-  get-other [] i j x d n = refl
-  get-other (y ∷ l) zero zero x d n = absurd (n refl)
-  get-other (y ∷ l) zero (suc j) x d n = refl
-  get-other (y ∷ l) (suc i) zero x d n = refl
-  get-other (y ∷ l) (suc i) (suc j) x d n = get-other l i j x d (λ e. n (ap suc e))
 
 -- the first k are the descriptions of their blocks
 pub record Filled (bs : List ℕ) (q : Question) (os : List Outline) (k : ℕ) : Type 0 where
@@ -51,10 +39,10 @@ module _ (bs : List ℕ) (q : Question) where
       at j l o true e =
           let same = eqb-true j k e in
           subst (λ i. Outlined bs q i (getD (set os k f) i o)) (sym same)
-          (subst (λ x. Outlined bs q k x) (sym (get-put os k f o (omega (arith, g .five, h)))) here)
+          (subst (λ x. Outlined bs q k x) (sym (getD-set-same os k f o (omega (arith, g .five, h)))) here)
       at j l o false e =
           let other = eqb-false j k e in
-          subst (λ x. Outlined bs q j x) (sym (get-other os k j f o other)) (g .filled j (less other) o)
+          subst (λ x. Outlined bs q j x) (sym (getD-set-other os k j f o other)) (g .filled j (less other) o)
         where
           less : (j ≡ k → ⊥) → j < k
           less n = omega (arith, l, n)

@@ -3,23 +3,20 @@
 --   outlineFrom code i   the words from place i on as a description; a word past the end reads 0
 --   outlineIn code k     the description of block k, of none where the words end before its sixteen do
 --   blocksIn code        the descriptions of the five blocks
---   placesOf b           the first eight words of a description: the parent, the places of the records
---   liveOf l             the words from the eleventh on: how many relation rows are not dropped, and their places
---   wordsOf o            the words of a description; of the sixteen those at 10 and at 15 are not used, that at 10 is 0
---   putFrom code i j xs  the words with xs in place of those from i + j on
+--   wordsOf o            the sixteen words of a description: the parent, the places of the records, the level, the blocks
+--                        named, 0, how many relation rows are not dropped and their places, 0
+--   withPart a k ws      the words a with ws in place of the sixteen of part k; a where they end before these do
+--   stored os a          what the words a are after the five descriptions are stored: the words of each, then those
+--                        behind the first eighty; a where there are fewer than eighty
 --   Narrow o             the numbers of eight and of sixteen bits are so small
---   StoredOne i o a b    where the words were a they are b: the description lies in those from place i on
---   Stored os a b        where the words were a they are b: with eighty of them the five descriptions lie in the first
---                        eighty, each whose live places are three, and the others are as they were; with fewer all are
-use Prim.Native.Nat.{ℕ, suc, _+_, _*_, _%_, _<_, _≤_}
+--   AllNarrow os         those of the five descriptions
+use Prim.Native.Nat.{ℕ, _+_, _*_, _%_, _<_}
 use mathlib.Core.Bool.{cond}
 use mathlib.Core.List.{List, [], _∷_, _++_}
-use mathlib.Core.Path.{_≡_}
 use lib.Dec.{leb}
-use lib.ListN.{length, getD, set, drop}
-use Rattle.relations.specs.declared.Live.{Live}
+use lib.ListN.{length, getD, take, drop}
+use Rattle.model.specs.Lists.{concatMap, range}
 use Rattle.syntax.specs.Places.{noBlock}
-use Rattle.syntax.specs.declared.Block.{Block}
 use Rattle.outline.specs.declared.Outline.{Outline}
 
 abbrev pub noOutline : Outline
@@ -61,8 +58,10 @@ unfoldable pub blocksIn : List ℕ → List Outline
 blocksIn code =
     outlineIn code 0 ∷ outlineIn code 1 ∷ outlineIn code 2 ∷ outlineIn code 3 ∷ outlineIn code 4 ∷ []
 
-abbrev pub placesOf : Block → List ℕ
-placesOf b =
+abbrev pub wordsOf : Outline → List ℕ
+wordsOf o =
+    let b = o .places in
+    let l = o .live in
     b .parent
     ∷ b .«rows_at»
     ∷ b .rows
@@ -71,30 +70,27 @@ placesOf b =
     ∷ b .«outputs_at»
     ∷ b .outputs
     ∷ b .end
+    ∷ o .level
+    ∷ o .named
+    ∷ 0
+    ∷ l .count
+    ∷ getD (l .places) 0 0
+    ∷ getD (l .places) 1 0
+    ∷ getD (l .places) 2 0
+    ∷ 0
     ∷ []
 
-abbrev pub liveOf : Live → List ℕ
-liveOf l = l .count ∷ getD (l .places) 0 0 ∷ getD (l .places) 1 0 ∷ getD (l .places) 2 0 ∷ []
+unfoldable pub withPart : List ℕ → ℕ → List ℕ → List ℕ
+withPart a k ws = cond (leb (16 * k + 16) (length a)) (take (16 * k) a ++ ws ++ drop (16 * k + 16) a) a
 
-abbrev pub wordsOf : Outline → List ℕ
-wordsOf o = placesOf (o .places) ++ (o .level ∷ o .named ∷ 0 ∷ liveOf (o .live))
-
-unfoldable pub putFrom : List ℕ → ℕ → ℕ → List ℕ → List ℕ
-putFrom code i j [] = code
-putFrom code i j (x ∷ xs) = putFrom (set code (i + j) x) i (suc j) xs
+unfoldable pub stored : List Outline → List ℕ → List ℕ
+stored os a =
+    cond (leb 80 (length a)) (concatMap (λ k. wordsOf (getD os k noOutline)) (range 0 5) ++ drop 80 a) a
 
 pub record Narrow (o : Outline) : Type 0 where
   pub parent-small : o .places .parent < 256
   pub level-small : o .level < 256
   pub named-small : o .named < 65536
 
-pub record StoredOne (i : ℕ) (o : Outline) (a b : List ℕ) : Type 0 where
-  pub put : b ≡ putFrom a i 0 (wordsOf o)
-  pub narrow : Narrow o
-
-pub record Stored (os : List Outline) (a b : List ℕ) : Type 0 where
-  pub long : length b ≡ length a
-  pub short : length a < 80 → b ≡ a
-  pub holds : 80 ≤ length a → (k : ℕ) → k < 5 → (o : Outline) → length (getD os k o .live .places) ≡ 3
-      → outlineIn b k ≡ getD os k o
-  pub kept : drop 80 b ≡ drop 80 a
+abbrev pub AllNarrow : List Outline → Type 0
+AllNarrow os = (k : ℕ) → k < 5 → Narrow (getD os k noOutline)

@@ -15,7 +15,7 @@ use Rattle.model.specs.Checks.{ratioAt}
 use Rattle.model.specs.Tables.{tables, columns}
 use Rattle.reader.proofs.WalkLaws.{elements-past, elements-turn, elements-done, conditions-past}
 use Rattle.syntax.specs.Described.{blocksIn}
-use Rattle.syntax.specs.Places.{byteAt, itemAt, recordEnd}
+use Rattle.syntax.specs.Places.{byteAt, itemAt, recordEnd, conditionEnd}
 use Rattle.syntax.specs.declared.Item.{Item}
 use borrow.Author.Tests.{eq-eqb, ne-eqb, lt-ltb, ltb-true, ltb-false}
 
@@ -96,13 +96,14 @@ module _ (bs : List ℕ) (x : Context) where
       stop zero false h e = refl
       stop (suc n) false h e = absurd (let z = ltb-false 0 (suc n) h in omega arith)
 
-  pub conditions-more : (n i m w r : ℕ) → 0 < n → r ≡ elementsCause bs x 2 (i + 3) m → r ≤ 11
-      → Left w (conditionsCause bs x n i m) m → Left w (conditionsCause bs x (n - 1) (i + 21) r) r
-  unfolding conditionsCause recordEnd
-  conditions-more zero i m w r h e b l = absurd (omega arith)
-  conditions-more (suc n) i m w r h e b l =
-      let p : suc n - 1 ≡ n = omega arith in let q : i + 21 ≡ i + 3 + 18 = omega arith in
-      record { same = rw (p, q, e) (l .same); small = b }
+  -- j is where the next one stands
+  pub conditions-more : (n i m w r : ℕ) → 0 < n → r ≡ elementsCause bs x 2 (i + 3) m → r ≤ 11 → {j : ℕ}
+      → j ≡ conditionEnd bs i → Left w (conditionsCause bs x n i m) m
+      → Left w (conditionsCause bs x (n - 1) j r) r
+  unfolding conditionsCause
+  conditions-more zero i m w r h e b d l = absurd (omega arith)
+  conditions-more (suc n) i m w r h e b d l =
+      let p : suc n - 1 ≡ n = omega arith in record { same = rw (p, d, e) (l .same); small = b }
 
 -- relation rows
 module _ (d : List ℤ) (bs : List ℕ) (x : Context) where

@@ -20,12 +20,14 @@ use Rattle.model.specs.Checks.{elementThere, ratioAt}
 use Rattle.model.specs.Lists.{concatMap}
 use Rattle.model.specs.Question.{Element, aggregate, Condition, otherElements}
 use Rattle.reader.proofs.LeafLaws.{empty-is, variable-is, fixed-is, aggregate-is, constant-is}
+use Rattle.syntax.proofs.Conditions.{past-stays}
 use Rattle.syntax.proofs.Laws.{byte-past, record-in, both}
 use Rattle.syntax.proofs.Lie.{recordsOk, Lies}
 use Rattle.syntax.proofs.Whole.{elements-length}
 use Rattle.syntax.specs.Described.{decode, elementAt, elementsAt, relationAt, relationsAt, conditionAt, conditionsAt}
 use Rattle.syntax.specs.Described.{described, blocksIn}
 use Rattle.syntax.specs.Places.{byteAt, wordAt, itemAt, noBlock, recordOk, recordEnd}
+use Rattle.syntax.specs.Places.{conditionEnd}
 use Rattle.syntax.specs.declared.Block.{Block}
 use borrow.Author.Tests.{lt-ltb, le-ltb, ltb-true, ne-eqb}
 use Rattle.model.specs.Question as model
@@ -58,11 +60,11 @@ module _ (bs : List ℕ) (x : Context) where
   elements-done (suc n) i m h = absurd (omega arith)
 
   pub conditions-past : (n i m : ℕ) → length bs ≤ i → m ≤ 11 → conditionsCause bs x n i m ≡ m
-  unfolding conditionsCause recordEnd
+  unfolding conditionsCause
   conditions-past zero i m h l = refl
   conditions-past (suc n) i m h l =
-      ap (conditionsCause bs x n (recordEnd 1 bs i)) (elements-past 2 (i + 3) m (omega arith) l)
-      ∙ conditions-past n (recordEnd 1 bs i) m (omega arith) l
+      ap (conditionsCause bs x n (conditionEnd bs i)) (elements-past 2 (i + 3) m (omega arith) l)
+      ∙ conditions-past n (conditionEnd bs i) m (past-stays bs i h) l
 
 -- the element at a place
 module _ (bs : List ℕ) (x : Context) (long : length (x .question .blocks) ≡ 5) where
@@ -203,11 +205,11 @@ module _ (bs : List ℕ) (x : Context) (long : length (x .question .blocks) ≡ 
   unfolding conditionsCause conditionsAt concatMap lowest
   conditions-are zero i m = refl
   conditions-are (suc n) i m =
-      ap (conditionsCause bs x n (recordEnd 1 bs i))
+      ap (conditionsCause bs x n (conditionEnd bs i))
       (elements-are 2 (i + 3) m ∙ ap (λ l. lowest (causeOf Q (x .block) masks) l m) (two-are i))
-      ∙ conditions-are n (recordEnd 1 bs i) _
+      ∙ conditions-are n (conditionEnd bs i) _
       ∙ sym (lowest-append (conditionAt bs i .left ∷ conditionAt bs i .right ∷ [])
-      (sides (conditionsAt bs n (recordEnd 1 bs i))) m)
+      (sides (conditionsAt bs n (conditionEnd bs i))) m)
 
   -- a block that lies in the bytes
   pub block-are : (d : List ℤ) (b : Block) (m : ℕ) → Lies bs b → model.blockAt Q (x .block) ≡ described bs b

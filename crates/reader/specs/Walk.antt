@@ -22,7 +22,7 @@ use Rattle.model.specs.Scope.{owns}
 use Rattle.model.specs.Tables.{tables, columns}
 use Rattle.scope.specs.Masks.{maskOf}
 use Rattle.syntax.specs.Described.{described, blocksIn}
-use Rattle.syntax.specs.Places.{byteAt, itemAt, recordEnd}
+use Rattle.syntax.specs.Places.{byteAt, itemAt, recordEnd, conditionEnd}
 use Rattle.syntax.specs.declared.Block.{Block}
 use Rattle.syntax.specs.declared.Item.{Item}
 use Rattle.syntax.specs.declared.Question.{Question}
@@ -54,7 +54,7 @@ rowsCause d bs x (suc n) i m =
 
 unfoldable pub conditionsCause : List ℕ → Context → (n i m : ℕ) → ℕ
 conditionsCause bs x zero i m = m
-conditionsCause bs x (suc n) i m = conditionsCause bs x n (recordEnd 1 bs i) (elementsCause bs x 2 (i + 3) m)
+conditionsCause bs x (suc n) i m = conditionsCause bs x n (conditionEnd bs i) (elementsCause bs x 2 (i + 3) m)
 
 unfoldable pub blockCause : List ℤ → List ℕ → Context → Block → ℕ → ℕ
 blockCause d bs x b m =

@@ -6,6 +6,7 @@ use syntax::Block;
 use syntax::Item;
 use syntax::Question;
 use syntax::byte_at;
+use syntax::condition_end;
 use syntax::item_at;
 ghost use Prim.Native.Nat.{ℕ, _+_, _*_, _<_, _≤_, min};
 ghost use lib.Dec.{eqb, ltb};
@@ -205,7 +206,7 @@ fn conditions_cause(s: &[u8], x: Context, at: usize, n: usize, m: u8) -> u8
     let mut more = n;
     while (more > 0) & (i < s.len()) {
         least = elements_cause(s, x, i + 3, 2, least);
-        i += 21;
+        i = condition_end(s, i);
         more -= 1;
     }
     least

@@ -15,6 +15,7 @@ use Rattle.value.specs.Exact.{tell}
 use Rattle.rows.specs.declared.Place.{Place}
 use Rattle.rows.specs.declared.Place.the-variants as place
 use Rattle.rows.specs.Insertion.{lower, upper, middle, turnOf, bisect}
+use Rattle.words.proofs.Decoding.{all-at}
 use Rattle.rows.proofs.SearchLoop.{bisect-done, bisect-step, middle-below}
 
 module _ {A : Type 0} (cmp : A → A → Ordering) (d : A) where
@@ -52,11 +53,6 @@ module _ {A : Type 0} (cmp : A → A → Ordering) (d : A) where
   ascending-at (y ∷ ys) i zero h k a = absurd (omega arith)
   ascending-at (y ∷ ys) zero (suc j) h k a = under-at y ys j (omega arith) (a .0)
   ascending-at (y ∷ ys) (suc i) (suc j) h k a = ascending-at ys i j (omega arith) (omega arith) (a .1)
-
-pub all-at : {A : Type 0} (P : A → Type 0) (d : A) (s : List A) (i : ℕ) → i < length s → All P s → P (getD s i d)
-all-at P d [] i h u = absurd (omega arith)
-all-at P d (y ∷ ys) zero h u = u .0
-all-at P d (y ∷ ys) (suc i) h u = all-at P d ys i (omega arith) (u .1)
 
 -- what the bisection tells of the insertion
 pub data Told {A : Type 0} (cmp : A → A → Ordering) (x : A) (s : List A) : Place → Type 0 where

@@ -1,6 +1,6 @@
 -- What the tests of the arguments say, and the answer and the words of each case of an insertion. Assumes nothing.
 use Prim.Native.Nat.{ℕ, _+_, _*_, _<_, _≤_}
-use native.Mathlib.Nat.{mul-le-mul, mul-le-mul-right}
+use native.Mathlib.Nat.{mul-le-mul-right}
 use native.Mathlib.Omega.{arith}
 use mathlib.Core.Bool.{Bool, true, false}
 use mathlib.Core.List.{List}
@@ -14,8 +14,8 @@ use Rattle.value.proofs.Laws.{both}
 use Rattle.rows.specs.declared.Added.the-variants as added
 use Rattle.rows.specs.declared.Place.{Place}
 use Rattle.rows.specs.declared.Place.the-variants as place
-use Rattle.rows.specs.Insertion.{fitsIn, atPlace, bisect, findOf, asNew, byPlace, addedOf, shifted, wordsAfter}
-use Rattle.rows.specs.Words.{roomOf}
+use Rattle.rows.specs.Insertion.{fitsIn, atPlace, bisect, findOf, asNew, byPlace, addedOf, wordsAfter}
+use Rattle.words.specs.Words.{roomOf, shifted}
 
 module _ (n count w x : ℕ) where
   pub unfit-none : n ≡ 0 → fitsIn n count w x ≡ false
@@ -62,10 +62,6 @@ module _ (n count w x : ℕ) where
         row = leb→le n x (p4 .0);
         words = leb→le (count * n) w (p4 .1);
       }
-
--- count rows of at most 4 columns are few values
-pub product-few : (count n a : ℕ) → count ≤ a → n ≤ 4 → count * n ≤ a * 4
-product-few count n a h k = mul-le-mul h k
 
 -- row r of count rows stands within their places
 pub place-fits : (r count n w : ℕ) → r < count → count * n ≤ w → r * n + n ≤ w

@@ -11,7 +11,7 @@ use Rattle.value.specs.declared.Compared.{Compared}
 use Rattle.value.specs.declared.Compared.the-variants.{Less, Equal, Greater, Outside}
 use Rattle.value.specs.Exact.{orderOf}
 use Rattle.rows.specs.Insertion.{isEqual, andThen, compareFrom}
-use Rattle.rows.specs.Words.{valueAt}
+use Rattle.words.specs.Words.{valueAt}
 
 -- the first c columns are equal
 pub record Alike (n : ℕ) (x l : List ℤ) (at c : ℕ) : Type 0 where

@@ -20,13 +20,13 @@ use Rattle.rows.specs.declared.Place.{Place}
 use Rattle.rows.specs.declared.Place.the-variants as place
 use Rattle.rows.specs.declared.Added.{Added}
 use Rattle.rows.specs.declared.Added.the-variants as added
-use Rattle.rows.specs.Insertion.{atPlace, bisect, shifted, fitsIn, asNew, addedOf, wordsAfter}
-use Rattle.rows.specs.Words.{roomOf}
-use Rattle.rows.specs.Encoding.{Carries, Encodes}
+use Rattle.rows.specs.Insertion.{atPlace, bisect, fitsIn, asNew, addedOf, wordsAfter}
+use Rattle.words.specs.Words.{roomOf, shifted}
+use Rattle.words.specs.Encoding.{Carries, Encodes}
 use Rattle.rows.proofs.CaseLaws.{found, placed, fit-words, new-large, new-put, after-there, after-large}
 use Rattle.rows.proofs.CaseLaws.{after-new}
 use Rattle.rows.proofs.Bisection.{Told, there, new, bisected}
-use Rattle.rows.proofs.Decoding.{at-row}
+use Rattle.rows.proofs.RowOrder.{at-row}
 
 -- ---- the words of a set, by its parts
 pub words-append : (a b : List Row) → setWords (a ++ b) ≡ setWords a ++ setWords b

@@ -19,7 +19,7 @@ use Rattle.value.specs.declared.Compared.the-variants.{Less, Equal, Greater, Ou
 use Rattle.value.specs.Exact.{inWords, tell, orderOf}
 use Rattle.value.proofs.Laws.{is-less, is-greater, is-equal, wholes-inside}
 use Rattle.rows.specs.Insertion.{isEqual, isOutside, compareFrom}
-use Rattle.rows.specs.Words.{valueAt}
+use Rattle.words.specs.Words.{valueAt}
 use Rattle.rows.specs.Plain.{Plain, PlainTo, Decides, alikeOf}
 use Rattle.rows.proofs.CompareLoop.{Alike, alike-more, alike-stop, alike-end}
 

@@ -11,19 +11,18 @@
 --   asNew n count w k       what becomes of a new row k: Large for the 257th, Refused where w places are too few
 --   byPlace n count w p     what becomes of a row with place p
 --   addedOf n count l x     what becomes of the candidate
---   shifted p e m l         l with the words from p to e moved up by m
 --   wordsAfter n count l x a  the words after the answer a
 use Prim.Native.Nat.{ℕ, zero, suc, _+_, _*_, _-_, _/_}
 use mathlib.Core.Bool.{Bool, true, false, _&&_, cond}
-use mathlib.Core.List.{List, _++_}
+use mathlib.Core.List.{List}
 use lib.Dec.{leb, ltb}
-use lib.ListN.{length, take, drop}
+use lib.ListN.{length}
 use lib.Seq.{paste}
 use lib.IntN.{ℤ}
 use Rattle.value.specs.declared.Compared.{Compared}
 use Rattle.value.specs.declared.Compared.the-variants.{Less, Equal, Greater, Outside}
 use Rattle.value.specs.Exact.{orderOf}
-use Rattle.rows.specs.Words.{roomOf, wordsOf, valueAt}
+use Rattle.words.specs.Words.{roomOf, wordsOf, valueAt, shifted}
 use Rattle.rows.specs.declared.Place.{Place}
 use Rattle.rows.specs.declared.Place.the-variants as place
 use Rattle.rows.specs.declared.Added.{Added}
@@ -102,9 +101,6 @@ byPlace n count w place.Refused = added.Refused
 
 unfoldable pub addedOf : ℕ → ℕ → List ℤ → List ℤ → Added
 addedOf n count l x = byPlace n count (roomOf (length l)) (findOf n count l x)
-
-unfoldable pub shifted : ℕ → ℕ → ℕ → List ℤ → List ℤ
-shifted p e m l = take (p + m) l ++ take (e - p) (drop p l) ++ drop (e + m) l
 
 unfoldable pub wordsAfter : ℕ → ℕ → List ℤ → List ℤ → Added → List ℤ
 wordsAfter n count l x (added.New k) =

@@ -13,7 +13,7 @@ use lib.IntN.{ℤ, pos, natAbs}
 use Rattle.value.specs.declared.Value.{Value}
 use Rattle.value.specs.declared.Compared.{Compared}
 use Rattle.value.specs.declared.Compared.the-variants.{Equal, Outside}
-use Rattle.rows.specs.Words.{valueAt}
+use Rattle.words.specs.Words.{valueAt}
 use Rattle.rows.specs.Insertion.{isOutside, bisect}
 use Rattle.rows.specs.declared.Walk.{Walk}
 use Rattle.rows.specs.declared.Place.the-variants as place

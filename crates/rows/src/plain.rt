@@ -1,8 +1,8 @@
 // Plain values: whole, and of at most 32 bits, as every value of a relation is. They are far inside the bounds of exact
 // order, so that their numerators alone tell their order. Where they do not tell, the answer is Outside, and the caller
 // compares by exact value.
+use crate::places;
 use crate::search;
-use crate::words;
 use value::Compared;
 use value::Value;
 ghost use mathlib.Core.Path.{_≡_};
@@ -11,7 +11,7 @@ ghost use Prim.Native.Nat.{_+_, _≤_};
 ghost use lib.ListN.{length};
 ghost use lib.IntN.{natAbs};
 ghost use Rattle.value.specs.Exact.{orderOf};
-ghost use Rattle.rows.specs.Words.{roomOf};
+ghost use Rattle.words.specs.Words.{roomOf};
 ghost use Rattle.rows.specs.Insertion.{compareFrom};
 ghost use Rattle.rows.specs.Plain.{Plain, PlainTo, Decides, alikeOf};
 
@@ -45,7 +45,7 @@ pub(crate) fn leading(row: &[i64], n: usize) -> usize
         if c >= n {
             return c;
         }
-        if !is_plain(words::get(row, c)) {
+        if !is_plain(places::get(row, c)) {
             return c;
         }
         c += 1;
@@ -95,7 +95,7 @@ pub(crate) fn compare(row: &[i64], words: &[i64], at: usize, n: usize, m: usize)
         if c >= m {
             return alike(n, m);
         }
-        let o = order(words::get(row, c), words::get(words, at + c));
+        let o = order(places::get(row, c), places::get(words, at + c));
         if !search::is_equal(o) {
             return o;
         }

@@ -4,13 +4,13 @@
 // plain part.
 use crate::Place;
 use crate::Walk;
+use crate::places;
 use crate::plain;
-use crate::words;
 use value::Compared;
 ghost use mathlib.Core.Path.{_≡_};
 ghost use Prim.Native.Nat.{_+_, _*_, _-_, _<_, _≤_};
 ghost use lib.ListN.{length};
-ghost use Rattle.rows.specs.Words.{roomOf};
+ghost use Rattle.words.specs.Words.{roomOf};
 ghost use Rattle.rows.specs.Plain.{Walked};
 ghost use Rattle.rows.specs.Insertion.{isEqual, isOutside, compareFrom, lower, upper, bisect, atPlace, fitsIn};
 
@@ -45,7 +45,7 @@ pub(crate) fn compare_row(row: &[i64], words: &[i64], at: usize, n: usize) -> Co
 {
     let mut c: usize = 0;
     while c < n {
-        let o = value::order(words::get(row, c), words::get(words, at + c));
+        let o = value::order(places::get(row, c), places::get(words, at + c));
         if !is_equal(o) {
             return o;
         }

@@ -1,5 +1,5 @@
 -- One turn of the loops that gather variables, over plain values; and that past the end of the bytes nothing is held.
-use Prim.Native.Nat.{ℕ, zero, suc, _+_, _*_, _-_, _≤_, _<_, min}
+use Prim.Native.Nat.{ℕ, zero, suc, _+_, _-_, _≤_, _<_, min}
 use native.Mathlib.Numerals.{unary-clauses}
 use native.Mathlib.Omega.{arith}
 use mathlib.Core.Bool.{Bool, true, false, _&&_, _||_, cond}
@@ -11,9 +11,11 @@ use lib.Dec.{eqb, ltb}
 use lib.ListN.{length}
 use borrow.Author.Tests.{ltb-true, ltb-false, lt-ltb, eq-eqb, ne-eqb}
 use Rattle.syntax.specs.declared.Item.{Item}
-use Rattle.syntax.specs.Places.{itemAt, byteAt, wordAt, headOf, entriesOf, recordEnd}
+use Rattle.syntax.specs.Places.{itemAt, byteAt, recordEnd, conditionEnd}
+use Rattle.syntax.proofs.Conditions.{past-stays}
 use Rattle.syntax.proofs.Laws.{byte-past, end-is, both}
-use Rattle.scope.specs.Gathering.{numberAt, holdsAt, elementsHold, recordsHold}
+use Rattle.scope.specs.Gathering.{numberAt, holdsAt, elementsHold, recordsHold, rowHolds, rowsHold}
+use Rattle.scope.specs.Gathering.{conditionHolds, conditionsHold}
 use Rattle.scope.specs.Masks.{maskOf}
 use Rattle.scope.proofs.MaskLaws.{mask-none, mask-or, mask-same}
 
@@ -115,40 +117,49 @@ module _ (k : ℕ) (bs : List ℕ) where
     pub elements-end : 0 < k → ltb 0 more && ltb i (length bs) ≡ false → mask ≡ maskOf whole
     elements-end p t = gather-end g (λ v. elements-stop more i v p (stopped more i (length bs) t))
 
--- ---- records
-module _ (r k : ℕ) (bs : List ℕ) where
-  pub records-past : (n i v : ℕ) → 0 < k → length bs ≤ i → recordsHold r k bs n i v ≡ false
+-- ---- records that hold nothing past place l, and of which none past it leads back
+module _ (held : ℕ → ℕ → Bool) (next : ℕ → ℕ) (l : ℕ) (past : (i v : ℕ) → l ≤ i → held i v ≡ false)
+    (stays : (i : ℕ) → l ≤ i → l ≤ next i) where
+  records-past : (n i v : ℕ) → l ≤ i → recordsHold held next n i v ≡ false
   unfolding recordsHold
-  records-past zero i v p h = refl
-  records-past (suc n) i v p h =
-      ap₂ _||_ (elements-past k bs (entriesOf r bs i) (i + headOf r) v p (omega arith))
-      (records-past n (recordEnd r bs i) v p (omega (arith, end-is r bs i)))
+  records-past zero i v h = refl
+  records-past (suc n) i v h = ap₂ _||_ (past i v h) (records-past n (next i) v (stays i h))
 
-  records-turn : (n i v : ℕ) → 0 < n
-      → recordsHold r k bs n i v
-      ≡ elementsHold k bs (entriesOf r bs i) (i + headOf r) v || recordsHold r k bs (n - 1) (recordEnd r bs i) v
+  records-stop : (n i v : ℕ) → (n ≡ 0) ⊎ (l ≤ i) → recordsHold held next n i v ≡ false
   unfolding recordsHold
-  records-turn zero i v h = absurd (omega arith)
-  records-turn (suc n) i v h = let p : suc n - 1 ≡ n = omega arith in rw p
+  records-stop n i v (inl e) = rw e
+  records-stop n i v (inr h) = records-past n i v h
 
-  records-stop : (n i v : ℕ) → 0 < k → (n ≡ 0) ⊎ (length bs ≤ i) → recordsHold r k bs n i v ≡ false
+  records-end : (more i : ℕ) {whole : ℕ → Bool} {mask : ℕ} → Gathered whole mask (recordsHold held next more i)
+      → ltb 0 more && ltb i l ≡ false → mask ≡ maskOf whole
+  records-end more i g t = gather-end g (λ v. records-stop more i v (stopped more i l t))
+
+-- a turn: x is what the record at i holds, and j where the next one stands
+module _ (held : ℕ → ℕ → Bool) (next : ℕ → ℕ) (more i : ℕ) {whole : ℕ → Bool} {mask : ℕ}
+    (g : Gathered whole mask (recordsHold held next more i)) where
+  records-turn : 0 < more → (n v : ℕ) → n ≡ more → recordsHold held next n i v
+      ≡ held i v || recordsHold held next (n - 1) (next i) v
   unfolding recordsHold
-  records-stop n i v p (inl e) = rw e
-  records-stop n i v p (inr h) = records-past n i v p h
+  records-turn h zero v e = absurd (omega arith)
+  records-turn h (suc n) v e = let p : suc n - 1 ≡ n = omega arith in rw p
 
-  module _ (more i : ℕ) {whole : ℕ → Bool} {mask : ℕ} (g : Gathered whole mask (recordsHold r k bs more i)) where
-    -- a turn: h and n are the head and the elements of the record at i, and x is what these hold
-    pub records-gathered : (h n x : ℕ) → 0 < more → h ≡ headOf r → n ≡ entriesOf r bs i
-        → x ≡ maskOf (elementsHold k bs n (i + h))
-        → Gathered whole (bitOr mask x) (recordsHold r k bs (more - 1) (i + h + 9 * n))
-    records-gathered h n x p h-is n-is x-is =
-        let e : recordEnd r bs i ≡ i + h + 9 * n = rw (h-is, n-is) (end-is r bs i) in
-        gather-turn g (elementsHold k bs n (i + h)) (recordsHold r k bs (more - 1) (i + h + 9 * n)) x
-        (λ v.
-        records-turn more i v p
-        ∙ ap₂ _||_ (ap₂ (λ a b. elementsHold k bs a (i + b) v) (sym n-is) (sym h-is))
-        (ap (λ j. recordsHold r k bs (more - 1) j v) e))
-        x-is
+  pub records-gathered : (x j : ℕ) → 0 < more → x ≡ maskOf (held i) → j ≡ next i
+      → Gathered whole (bitOr mask x) (recordsHold held next (more - 1) j)
+  records-gathered x j p x-is j-is =
+      gather-turn g (held i) (recordsHold held next (more - 1) j) x
+      (λ v. records-turn p more v refl ∙ ap (λ y. held i v || recordsHold held next (more - 1) y v) (sym j-is)) x-is
 
-    pub records-end : 0 < k → ltb 0 more && ltb i (length bs) ≡ false → mask ≡ maskOf whole
-    records-end p t = gather-end g (λ v. records-stop more i v p (stopped more i (length bs) t))
+-- relation rows and conditions hold nothing past the end
+module _ (k : ℕ) (bs : List ℕ) (p : 0 < k) (more i : ℕ) {whole : ℕ → Bool} {mask : ℕ} where
+  pub rows-end : Gathered whole mask (rowsHold k bs more i) → ltb 0 more && ltb i (length bs) ≡ false
+      → mask ≡ maskOf whole
+  rows-end g t =
+      records-end (rowHolds k bs) (recordEnd 0 bs) (length bs)
+      (λ j v h. elements-past k bs (byteAt bs (j + 3)) (j + 4) v p (omega arith))
+      (λ j h. omega (arith, end-is 0 bs j)) more i g t
+
+  pub conditions-end : Gathered whole mask (conditionsHold k bs more i) → ltb 0 more && ltb i (length bs) ≡ false
+      → mask ≡ maskOf whole
+  conditions-end g t =
+      records-end (conditionHolds k bs) (conditionEnd bs) (length bs)
+      (λ j v h. elements-past k bs 2 (j + 3) v p (omega arith)) (past-stays bs) more i g t

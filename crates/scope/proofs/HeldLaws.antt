@@ -14,9 +14,9 @@ use Rattle.model.proofs.ListEquations.{any-nil, any-cons}
 use Rattle.model.proofs.QuestionEquations.{inRows-nil, inRows-cons, inConditions-nil, inConditions-cons, namesIn-is}
 use Rattle.syntax.specs.Described.{decode, elementAt, elementsAt, relationAt, relationsAt, conditionAt, conditionsAt}
 use Rattle.syntax.specs.Described.{described}
-use Rattle.syntax.specs.Places.{byteAt, wordAt, recordEnd}
+use Rattle.syntax.specs.Places.{byteAt, wordAt, recordEnd, conditionEnd}
 use Rattle.syntax.specs.declared.Block.{Block}
-use Rattle.scope.specs.Gathering.{holdsAt, elementsHold, recordsHold}
+use Rattle.scope.specs.Gathering.{holdsAt, elementsHold, recordsHold, rowsHold, conditionsHold}
 use Rattle.scope.specs.Masks.{maskOf}
 use Rattle.scope.specs.Shown.{shown}
 use Rattle.scope.proofs.MaskLaws.{mask-same, mask-or}
@@ -68,7 +68,7 @@ module _ (k : ℕ) (bs : List ℕ) (v : ℕ) (p : Element → Bool) (h : (i : �
   elements-any (suc n) i =
       ap₂ _||_ (h i) (elements-any n (i + 9)) ∙ sym (any-cons p (elementAt bs i) (elementsAt bs n (i + 9)))
 
-  pub rows-any : (n i : ℕ) → recordsHold 0 k bs n i v ≡ inRows p (relationsAt bs n i)
+  pub rows-any : (n i : ℕ) → rowsHold k bs n i v ≡ inRows p (relationsAt bs n i)
   unfolding recordsHold relationsAt relationAt
   rows-any zero i = sym (inRows-nil p)
   rows-any (suc n) i =
@@ -85,22 +85,22 @@ module _ (k : ℕ) (bs : List ℕ) (v : ℕ) (p : Element → Bool) (h : (i : �
       or-none true = refl
       or-none false = refl
 
-  pub conditions-any : (n i : ℕ) → recordsHold 1 k bs n i v ≡ inConditions p (conditionsAt bs n i)
+  pub conditions-any : (n i : ℕ) → conditionsHold k bs n i v ≡ inConditions p (conditionsAt bs n i)
   unfolding recordsHold conditionsAt conditionAt
   conditions-any zero i = sym (inConditions-nil p)
   conditions-any (suc n) i =
-      ap₂ _||_ (two-any i) (conditions-any n (recordEnd 1 bs i))
-      ∙ sym (inConditions-cons p (conditionAt bs i) (conditionsAt bs n (recordEnd 1 bs i)))
+      ap₂ _||_ (two-any i) (conditions-any n (conditionEnd bs i))
+      ∙ sym (inConditions-cons p (conditionAt bs i) (conditionsAt bs n (conditionEnd bs i)))
 
 module _ (bs : List ℕ) (b : Block) (v : ℕ) where
-  pub owns-held : recordsHold 0 2 bs (b .rows) (b .«rows_at») v ≡ owns v (described bs b)
+  pub owns-held : rowsHold 2 bs (b .rows) (b .«rows_at») v ≡ owns v (described bs b)
   unfolding described
   owns-held =
       rows-any 2 bs v (isVar v) (holds-variable bs v) (b .rows) (b .«rows_at»)
       ∙ sym (owns-is v (described bs b))
 
-  pub refers-held : recordsHold 0 3 bs (b .rows) (b .«rows_at») v
-      || (recordsHold 1 3 bs (b .conditions) (b .«conditions_at») v
+  pub refers-held : rowsHold 3 bs (b .rows) (b .«rows_at») v
+      || (conditionsHold 3 bs (b .conditions) (b .«conditions_at») v
       || elementsHold 3 bs (b .outputs) (b .«outputs_at») v)
       ≡ refers v (described bs b)
   unfolding described
@@ -110,7 +110,7 @@ module _ (bs : List ℕ) (b : Block) (v : ℕ) where
       (elements-any 3 bs v (isFixed v) (holds-fixed bs v) (b .outputs) (b .«outputs_at»)))
       ∙ sym (refers-is v (described bs b))
 
-  pub shown-held : recordsHold 1 2 bs (b .conditions) (b .«conditions_at») v
+  pub shown-held : conditionsHold 2 bs (b .conditions) (b .«conditions_at») v
       || elementsHold 2 bs (b .outputs) (b .«outputs_at») v
       ≡ shown v (described bs b)
   unfolding described shown
@@ -119,7 +119,7 @@ module _ (bs : List ℕ) (b : Block) (v : ℕ) where
       (elements-any 2 bs v (isVar v) (holds-variable bs v) (b .outputs) (b .«outputs_at»))
 
   pub names-held : elementsHold 4 bs (b .outputs) (b .«outputs_at») v
-      || recordsHold 1 4 bs (b .conditions) (b .«conditions_at») v
+      || conditionsHold 4 bs (b .conditions) (b .«conditions_at») v
       ≡ namesIn v (described bs b)
   unfolding described
   names-held =
@@ -128,38 +128,38 @@ module _ (bs : List ℕ) (b : Block) (v : ℕ) where
       ∙ sym (namesIn-is v (described bs b))
 
 module _ (bs : List ℕ) (b : Block) where
-  pub own-is : (x : ℕ) → x ≡ maskOf (recordsHold 0 2 bs (b .rows) (b .«rows_at»))
+  pub own-is : (x : ℕ) → x ≡ maskOf (rowsHold 2 bs (b .rows) (b .«rows_at»))
       → x ≡ maskOf (λ v. owns v (described bs b))
-  own-is x e = e ∙ mask-same (recordsHold 0 2 bs (b .rows) (b .«rows_at»)) _ (λ v l. owns-held bs b v)
+  own-is x e = e ∙ mask-same (rowsHold 2 bs (b .rows) (b .«rows_at»)) _ (λ v l. owns-held bs b v)
 
-  pub used-is : (x y z : ℕ) → x ≡ maskOf (recordsHold 0 3 bs (b .rows) (b .«rows_at»))
-      → y ≡ maskOf (recordsHold 1 3 bs (b .conditions) (b .«conditions_at»))
+  pub used-is : (x y z : ℕ) → x ≡ maskOf (rowsHold 3 bs (b .rows) (b .«rows_at»))
+      → y ≡ maskOf (conditionsHold 3 bs (b .conditions) (b .«conditions_at»))
       → z ≡ maskOf (elementsHold 3 bs (b .outputs) (b .«outputs_at»))
       → bitOr x (bitOr y z) ≡ maskOf (λ v. refers v (described bs b))
   used-is x y z e f g =
-      let p = recordsHold 0 3 bs (b .rows) (b .«rows_at») in
-      let q = recordsHold 1 3 bs (b .conditions) (b .«conditions_at») in
+      let p = rowsHold 3 bs (b .rows) (b .«rows_at») in
+      let q = conditionsHold 3 bs (b .conditions) (b .«conditions_at») in
       let r = elementsHold 3 bs (b .outputs) (b .«outputs_at») in
       ap₂ bitOr e (ap₂ bitOr f g ∙ mask-or q r)
       ∙ mask-or p (λ v. q v || r v)
       ∙ mask-same (λ v. p v || (q v || r v)) (λ v. refers v (described bs b)) (λ v l. refers-held bs b v)
 
-  pub shown-is : (x y : ℕ) → x ≡ maskOf (recordsHold 1 2 bs (b .conditions) (b .«conditions_at»))
+  pub shown-is : (x y : ℕ) → x ≡ maskOf (conditionsHold 2 bs (b .conditions) (b .«conditions_at»))
       → y ≡ maskOf (elementsHold 2 bs (b .outputs) (b .«outputs_at»))
       → bitOr x y ≡ maskOf (λ v. shown v (described bs b))
   shown-is x y e f =
-      let p = recordsHold 1 2 bs (b .conditions) (b .«conditions_at») in
+      let p = conditionsHold 2 bs (b .conditions) (b .«conditions_at») in
       let q = elementsHold 2 bs (b .outputs) (b .«outputs_at») in
       ap₂ bitOr e f
       ∙ mask-or p q
       ∙ mask-same (λ v. p v || q v) (λ v. shown v (described bs b)) (λ v l. shown-held bs b v)
 
   pub named-is : (x y : ℕ) → x ≡ maskOf (elementsHold 4 bs (b .outputs) (b .«outputs_at»))
-      → y ≡ maskOf (recordsHold 1 4 bs (b .conditions) (b .«conditions_at»))
+      → y ≡ maskOf (conditionsHold 4 bs (b .conditions) (b .«conditions_at»))
       → bitOr x y ≡ maskOf (λ v. namesIn v (described bs b))
   named-is x y e f =
       let p = elementsHold 4 bs (b .outputs) (b .«outputs_at») in
-      let q = recordsHold 1 4 bs (b .conditions) (b .«conditions_at») in
+      let q = conditionsHold 4 bs (b .conditions) (b .«conditions_at») in
       ap₂ bitOr e f
       ∙ mask-or p q
       ∙ mask-same (λ v. p v || q v) (λ v. namesIn v (described bs b)) (λ v l. names-held bs b v)

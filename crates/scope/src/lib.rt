@@ -11,10 +11,9 @@ ghost use lib.ListN.{length, getD};
 ghost use Rattle.model.specs.Checks.{ratioAt};
 ghost use Rattle.model.specs.Question.{empty, blockAt, namesIn};
 ghost use Rattle.model.specs.Scope.{owns, refers, levelOf};
-ghost use Rattle.syntax.specs.Places.{headOf, entriesOf};
 ghost use Rattle.syntax.specs.Described.{described, blocksIn};
 ghost use Rattle.scope.specs.Masks.{hasBit, maskOf};
-ghost use Rattle.scope.specs.Gathering.{holdsAt, elementsHold, recordsHold};
+ghost use Rattle.scope.specs.Gathering.{holdsAt, elementsHold, rowsHold, conditionsHold};
 ghost use Rattle.scope.specs.Shown.{shown};
 ghost use Rattle.scope.specs.Columns.{elementOf, passesOn, isAverage, absentBlock};
 
@@ -92,41 +91,34 @@ fn elements_hold(s: &[u8], at: usize, n: usize, kind: u8) -> u16
     mask
 }
 
-// How long the head of a record is: 0 RW, 1 CD.
-fn head_of(rec: u8) -> usize
-    requires { ⌜ rec < 2 ⌝ }
-    ensures { λ r. ⌜ (r ≡ headOf rec) × (r ≤ 4) ⌝ }
-{
-    if rec == 0 {
-        return 4;
-    }
-    3
-}
-
-// How many elements the record at a place has.
-fn entries_of(rec: u8, s: &[u8], at: usize) -> usize
-    requires { ⌜ (rec < 2) × (at < length (now s)) ⌝ }
-    ensures { λ r. ⌜ (r ≡ entriesOf rec (now (s .entry)) at) × (r < 256) ⌝ }
-{
-    if rec == 0 {
-        return size(syntax::byte_at(s, at + 3));
-    }
-    2
-}
-
-// The numbers that n records from a place on hold as the kind.
-fn records_hold(rec: u8, s: &[u8], at: usize, n: usize, kind: u8) -> u16
-    requires { ⌜ (rec < 2) × (0 < kind) ⌝ }
-    ensures { λ r. ⌜ r ≡ maskOf (recordsHold rec kind (now (s .entry)) n at) ⌝ }
+// The numbers that n relation rows from a place on hold as the kind.
+fn rows_hold(s: &[u8], at: usize, n: usize, kind: u8) -> u16
+    requires { ⌜ 0 < kind ⌝ }
+    ensures { λ r. ⌜ r ≡ maskOf (rowsHold kind (now (s .entry)) n at) ⌝ }
 {
     let mut mask: u16 = 0;
     let mut i = at;
     let mut more = n;
     while (more > 0) & (i < s.len()) {
-        let first = i + head_of(rec);
-        let inside = entries_of(rec, s, i);
-        mask = mask | elements_hold(s, first, inside, kind);
-        i = first + 9 * inside;
+        let inside = size(syntax::byte_at(s, i + 3));
+        mask = mask | elements_hold(s, i + 4, inside, kind);
+        i = i + 4 + 9 * inside;
+        more -= 1;
+    }
+    mask
+}
+
+// The numbers that n conditions from a place on hold as the kind.
+fn conditions_hold(s: &[u8], at: usize, n: usize, kind: u8) -> u16
+    requires { ⌜ 0 < kind ⌝ }
+    ensures { λ r. ⌜ r ≡ maskOf (conditionsHold kind (now (s .entry)) n at) ⌝ }
+{
+    let mut mask: u16 = 0;
+    let mut i = at;
+    let mut more = n;
+    while (more > 0) & (i < s.len()) {
+        mask = mask | elements_hold(s, i + 3, 2, kind);
+        i = syntax::condition_end(s, i);
         more -= 1;
     }
     mask
@@ -136,15 +128,15 @@ fn records_hold(rec: u8, s: &[u8], at: usize, n: usize, kind: u8) -> u16
 pub fn own(s: &[u8], b: syntax::Block) -> u16
     ensures { λ r. ⌜ r ≡ maskOf (λ v. owns v (described (now (s .entry)) b)) ⌝ }
 {
-    records_hold(0, s, b.rows_at, b.rows, 2)
+    rows_hold(s, b.rows_at, b.rows, 2)
 }
 
 // The variables that stand in a block as fixed ones: in its relation rows, its conditions and its output list.
 pub fn used(s: &[u8], b: syntax::Block) -> u16
     ensures { λ r. ⌜ r ≡ maskOf (λ v. refers v (described (now (s .entry)) b)) ⌝ }
 {
-    let rows = records_hold(0, s, b.rows_at, b.rows, 3);
-    let conditions = records_hold(1, s, b.conditions_at, b.conditions, 3);
+    let rows = rows_hold(s, b.rows_at, b.rows, 3);
+    let conditions = conditions_hold(s, b.conditions_at, b.conditions, 3);
     let outputs = elements_hold(s, b.outputs_at, b.outputs, 3);
     rows | (conditions | outputs)
 }
@@ -153,7 +145,7 @@ pub fn used(s: &[u8], b: syntax::Block) -> u16
 pub fn shown(s: &[u8], b: syntax::Block) -> u16
     ensures { λ r. ⌜ r ≡ maskOf (λ v. shown v (described (now (s .entry)) b)) ⌝ }
 {
-    let conditions = records_hold(1, s, b.conditions_at, b.conditions, 2);
+    let conditions = conditions_hold(s, b.conditions_at, b.conditions, 2);
     let outputs = elements_hold(s, b.outputs_at, b.outputs, 2);
     conditions | outputs
 }
@@ -163,7 +155,7 @@ pub fn named(s: &[u8], b: syntax::Block) -> u16
     ensures { λ r. ⌜ r ≡ maskOf (λ k. namesIn k (described (now (s .entry)) b)) ⌝ }
 {
     let outputs = elements_hold(s, b.outputs_at, b.outputs, 4);
-    let conditions = records_hold(1, s, b.conditions_at, b.conditions, 4);
+    let conditions = conditions_hold(s, b.conditions_at, b.conditions, 4);
     outputs | conditions
 }
 

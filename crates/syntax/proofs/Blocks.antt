@@ -5,12 +5,13 @@ use mathlib.Core.Bool.{Bool, true, false, not}
 use mathlib.Core.List.{List, _∷_}
 use mathlib.Core.Logic.{_⊎_, inl, inr, ⊎-elim}
 use mathlib.Core.Option.{none, some}
-use mathlib.Core.Path.{_≡_, refl, sym, ap, _∙_, subst}
+use mathlib.Core.Path.{_≡_, refl, sym, ap, ap₂, _∙_, subst}
 use lib.Dec.{T, eqb}
 use lib.ListN.{length, drop}
 use lib.Seq.{drop-drop}
 use Rattle.syntax.specs.Described.{relationAt, relationsAt, conditionAt, conditionsAt, elementsAt, described}
-use Rattle.syntax.specs.Places.{elementsOk, byteAt, headOk, recordEnd, recordOk, runs, noBlock, block}
+use Rattle.syntax.specs.Places.{elementsOk, byteAt, headOk, recordEnd, conditionEnd, recordOk, runs, noBlock}
+use Rattle.syntax.specs.Places.{block}
 use Rattle.syntax.specs.declared.Block.{Block}
 use Rattle.syntax.specs.declared.Run.{Run}
 use Rattle.model.proofs.FormatEquations.{after-none, after-some, only-fails}
@@ -18,6 +19,7 @@ use Rattle.model.proofs.RecordEquations.{one-there, one-missing, block-nil, blo
 use Rattle.model.specs.Format.{Parser, after, only, relation, condition, output}
 use Rattle.model.specs.Question.{RelationRow, Condition}
 use Rattle.model.specs.Records.{BK, RW, CD, OL, marked, many, one}
+use Rattle.syntax.proofs.Conditions.{end-within, past-stays, condition-past}
 use Rattle.syntax.proofs.Elements.{le-or, nil-at, only-pass}
 use Rattle.syntax.proofs.Laws.{on, run-done, end-is, block-is, block-bare, with-bare, record-whole}
 use Rattle.syntax.proofs.Records.{markOf, head-is, record-marked, cut, one-at, relation-reads, condition-reads}
@@ -33,10 +35,31 @@ unfolding relationsAt listAt
 relations-are bs zero i = refl
 relations-are bs (suc n) i = ap (λ l. relationAt bs i ∷ l) (relations-are bs n (recordEnd 0 bs i))
 
+-- past the end the conditions that follow are the same from every place
+conditions-beyond : (bs : List ℕ) (n i j : ℕ) → length bs ≤ i → length bs ≤ j
+    → listAt (conditionAt bs) (recordEnd 1 bs) n i ≡ listAt (conditionAt bs) (recordEnd 1 bs) n j
+unfolding listAt
+conditions-beyond bs zero i j h k = refl
+conditions-beyond bs (suc n) i j h k =
+    ap₂ _∷_ (condition-past bs i h ∙ sym (condition-past bs j k))
+    (conditions-beyond bs n (recordEnd 1 bs i) (recordEnd 1 bs j) (omega (arith, end-is 1 bs i))
+    (omega (arith, end-is 1 bs j)))
+
+conditions-step : (bs : List ℕ) (n i : ℕ)
+    → listAt (conditionAt bs) (recordEnd 1 bs) n (conditionEnd bs i)
+    ≡ listAt (conditionAt bs) (recordEnd 1 bs) n (recordEnd 1 bs i)
+conditions-step bs n i =
+    ⊎-elim
+    (λ h. conditions-beyond bs n (conditionEnd bs i) (recordEnd 1 bs i) (past-stays bs i h)
+    (omega (arith, end-is 1 bs i)))
+    (λ h. ap (listAt (conditionAt bs) (recordEnd 1 bs) n) (end-within bs i h))
+    (le-or (length bs) i)
+
 conditions-are : (bs : List ℕ) (n i : ℕ) → conditionsAt bs n i ≡ listAt (conditionAt bs) (recordEnd 1 bs) n i
 unfolding conditionsAt listAt
 conditions-are bs zero i = refl
-conditions-are bs (suc n) i = ap (λ l. conditionAt bs i ∷ l) (conditions-are bs n (recordEnd 1 bs i))
+conditions-are bs (suc n) i =
+    ap (λ l. conditionAt bs i ∷ l) (conditions-are bs n (conditionEnd bs i) ∙ conditions-step bs n i)
 
 not-true : {P : Type 0} → false ≡ true → P
 not-true e = absurd (subst T (sym e) tt)

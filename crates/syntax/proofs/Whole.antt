@@ -10,7 +10,7 @@ use lib.ListN.{length-map, length, drop, getD, set, take, length-append, List·g
 use lib.Seq.{drop-drop, getD-set-same, getD-set-other}
 use Rattle.syntax.specs.Described.{relationsAt, conditionsAt, elementsAt, described, blocksIn}
 use Rattle.syntax.specs.Places.{headOk, elementsOk, recordEnd, recordOk, noBlock, block, blockWithin, put, walk}
-use Rattle.syntax.specs.Places.{noQuestion, reading, wellFormed}
+use Rattle.syntax.specs.Places.{noQuestion, reading, wellFormed, conditionEnd}
 use Rattle.syntax.specs.declared.Block.{Block}
 use Rattle.syntax.specs.declared.Question.{Question}
 use Rattle.model.proofs.RecordEquations.{ends-nil, ends-cons, question-malformed, question-unended, question-read}
@@ -291,7 +291,7 @@ relations-length bs (suc n) i = ap suc (relations-length bs n (recordEnd 0 bs i)
 conditions-length : (bs : List ℕ) (n i : ℕ) → length (conditionsAt bs n i) ≡ n
 unfolding conditionsAt
 conditions-length bs zero i = refl
-conditions-length bs (suc n) i = ap suc (conditions-length bs n (recordEnd 1 bs i))
+conditions-length bs (suc n) i = ap suc (conditions-length bs n (conditionEnd bs i))
 
 pub elements-length : (bs : List ℕ) (n i : ℕ) → length (elementsAt bs n i) ≡ n
 unfolding elementsAt

@@ -7,7 +7,7 @@
 use Prim.Native.Nat.{ℕ, zero, suc, _+_}
 use mathlib.Core.List.{List, [], _∷_, map}
 use lib.ListN.{take}
-use Rattle.syntax.specs.Places.{byteAt, wordAt, recordEnd}
+use Rattle.syntax.specs.Places.{byteAt, wordAt, recordEnd, conditionEnd}
 use Rattle.syntax.specs.declared.Block.{Block}
 use Rattle.syntax.specs.declared.Question.{Question}
 use Rattle.model.specs.Format.{signed}
@@ -41,7 +41,7 @@ conditionAt bs i =
 
 unfoldable pub conditionsAt : List ℕ → ℕ → ℕ → List Condition
 conditionsAt bs zero i = []
-conditionsAt bs (suc n) i = conditionAt bs i ∷ conditionsAt bs n (recordEnd 1 bs i)
+conditionsAt bs (suc n) i = conditionAt bs i ∷ conditionsAt bs n (conditionEnd bs i)
 
 unfoldable pub described : List ℕ → Block → model.Block
 described bs b =

@@ -8,6 +8,7 @@
 --   elementOk r bs i      an element of record r stands at i; elementsOk r bs n i: n of them
 --   headOf r              the bytes of a record before its elements; entriesOf r bs i: how many elements follow
 --   recordOk r bs i       record r stands at i, whole and well formed; recordEnd r bs i: the place after it
+--   conditionEnd bs i     the place after the condition at i; i itself past the end, where a walk stops
 --   run f r bs n i        as many records r as stand from i on, n before them: how many, and where they end
 --   block bs i            the description of the block at i, its end 0 where none stands
 --   blockWithin b         the limits of number 6 on one block
@@ -92,6 +93,10 @@ headOk r bs i = isMark r (byteAt bs i) (byteAt bs (i + 1)) && (not (eqb r 1) || 
 
 unfoldable pub recordEnd : ℕ → List ℕ → ℕ → ℕ
 recordEnd r bs i = i + headOf r + 9 * entriesOf r bs i
+
+-- the step of every walk over conditions
+unfoldable pub conditionEnd : List ℕ → ℕ → ℕ
+conditionEnd bs i = cond (ltb i (length bs)) (recordEnd 1 bs i) i
 
 -- a record r stands at i, well formed
 unfoldable pub recordOk : ℕ → List ℕ → ℕ → Bool

@@ -9,7 +9,7 @@ ghost use Rattle.model.specs.Records as model;
 ghost use Rattle.syntax.specs.Places.{itemAt, headAt, byteAt, left, wordAt, takes, fiveZeros, argumentOk, elementOk};
 ghost use Rattle.syntax.specs.Places.{elementsOk, isMark, headOf, entriesOf, headOk, recordEnd, recordOk, run};
 ghost use Rattle.syntax.specs.Places.{runs, block, blockWithin, put, walk, noBlock, noQuestion, reading};
-ghost use Rattle.syntax.specs.Places.{wellFormed};
+ghost use Rattle.syntax.specs.Places.{conditionEnd, wellFormed};
 
 // An element of the question: its kind, its argument as a number, and the argument's first three bytes.
 pub struct Item {
@@ -154,6 +154,17 @@ pub fn item_at(s: &[u8], at: usize) -> Item
         block: low(argument / 256),
         column: low(argument / 65536),
     }
+}
+
+// The place after the condition at a place, the place itself where the bytes end: the step of every walk over
+// conditions.
+pub fn condition_end(s: &[u8], at: usize) -> usize
+    ensures { λ r. ⌜ r ≡ conditionEnd (now (s .entry)) at ⌝ }
+{
+    if at < s.len() {
+        return at + 21;
+    }
+    at
 }
 
 // Whether the record takes the kind: 0 RW, 1 CD, 2 OL.

@@ -223,7 +223,7 @@ fn indexed(what: &[u8], words: &[i32], t: u8, c: u8, length: usize) {
 // The index in the first words of a buffer.
 fn index_part(what: &[u8], words: &[i32], t: u8, c: u8, out: &mut [u16], length: usize) {
     if length <= out.len() {
-        say(what, tables::index(words, t, c, &mut out[..length]) as u64);
+        say(what, indexes::index(words, t, c, &mut out[..length]) as u64);
     }
 }
 
@@ -281,7 +281,7 @@ fn refused_indexes() {
 
 // The range of a value in an index.
 fn ranged(what: &[u8], words: &[i32], index: &[u16], wanted: i64) {
-    let r = tables::range_of(words, 0, 0, index, wanted);
+    let r = ranges::range_of(words, 0, 0, index, wanted);
     io::write_all(STDOUT_FILENO, what);
     io::write_all(STDOUT_FILENO, b": ");
     io::print_decimal(STDOUT_FILENO, r.from as u64);
@@ -347,7 +347,7 @@ fn small_ranges() {
     let mut out = [7u16; 9];
     say(
         b"index for ranges",
-        tables::index(&words, 0, 0, &mut out) as u64,
+        indexes::index(&words, 0, 0, &mut out) as u64,
     );
     ranges(&words, &out);
     far_ranges(&words, &out);
@@ -371,7 +371,7 @@ fn large_index() {
     let mut out = [7u16; 257];
     say(
         b"index of 256 rows",
-        tables::index(&words, 0, 0, &mut out) as u64,
+        indexes::index(&words, 0, 0, &mut out) as u64,
     );
     line(&out);
     ranged(b"range of 0 in 256 rows", &words, &out, 0);

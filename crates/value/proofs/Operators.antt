@@ -1,50 +1,54 @@
--- The six operators against less, equal and greater, as the tests of an operator's number. Assumes nothing.
-use Prim.Native.Nat.{ℕ, zero, suc, _<_, _≤_, Ordering·lt, Ordering·eq, Ordering·gt}
-use native.Mathlib.Omega.{arith}
-use mathlib.Core.Bool.{true, false}
-use mathlib.Core.Path.{_≡_, refl}
-use Rattle.model.specs.Value.{testOf}
+-- The six operators by two tests, of less and of more, against the model's; and the two tests of two integers against
+-- their order. Assumes nothing.
+use Prim.Native.Nat.{ℕ, zero, suc}
+use mathlib.Core.Bool.{Bool, true, false, _&&_, _||_, not}
+use mathlib.Core.Path.{_≡_, refl, sym, ap, _∙_}
+use lib.IntN.{ℤ}
+use lib.Signed.{ltZ}
+use Rattle.model.specs.Value.{compareZ, testOf}
+use Rattle.value.specs.Exact.{toldBy}
+use Rattle.value.proofs.Laws.{is-less, is-greater, is-equal}
 
-pub less-else : (op : ℕ) → (op ≡ 1 → ⊥) → (op ≡ 2 → ⊥) → (op ≡ 3 → ⊥) → testOf op Ordering·lt ≡ false
-less-else zero a b c = refl
-less-else (suc zero) a b c = absurd (a refl)
-less-else (suc (suc zero)) a b c = absurd (b refl)
-less-else (suc (suc (suc zero))) a b c = absurd (c refl)
-less-else (suc (suc (suc (suc zero)))) a b c = refl
-less-else (suc (suc (suc (suc (suc n))))) a b c = refl
+-- what the code makes of the two tests, by the operator's number
+abbrev pub judged : ℕ → Bool → Bool → Bool
+judged zero l m = not l && not m
+judged (suc zero) l m = l || m
+judged (suc (suc zero)) l m = l
+judged (suc (suc (suc zero))) l m = l || not m
+judged (suc (suc (suc (suc zero)))) l m = m && not l
+judged (suc (suc (suc (suc (suc n))))) l m = not l
 
-pub less-range : (op : ℕ) → 1 ≤ op → op < 4 → testOf op Ordering·lt ≡ true
-less-range zero l u = absurd (omega arith)
-less-range (suc zero) l u = refl
-less-range (suc (suc zero)) l u = refl
-less-range (suc (suc (suc zero))) l u = refl
-less-range (suc (suc (suc (suc n)))) l u = absurd (omega arith)
+-- an operator whose number is known to be k
+pub judged-is : (l m : Bool) (op k : ℕ) → op ≡ k → judged k l m ≡ testOf op (toldBy l m)
+judged-is l m op k e = table l m k ∙ ap (λ n. testOf n (toldBy l m)) (sym e)
+  where
+    table : (l m : Bool) (k : ℕ) → judged k l m ≡ testOf k (toldBy l m)
+    table true true zero = refl
+    table true false zero = refl
+    table false true zero = refl
+    table false false zero = refl
+    table true m (suc zero) = refl
+    table false true (suc zero) = refl
+    table false false (suc zero) = refl
+    table true m (suc (suc zero)) = refl
+    table false true (suc (suc zero)) = refl
+    table false false (suc (suc zero)) = refl
+    table true m (suc (suc (suc zero))) = refl
+    table false true (suc (suc (suc zero))) = refl
+    table false false (suc (suc (suc zero))) = refl
+    table true true (suc (suc (suc (suc zero)))) = refl
+    table true false (suc (suc (suc (suc zero)))) = refl
+    table false true (suc (suc (suc (suc zero)))) = refl
+    table false false (suc (suc (suc (suc zero)))) = refl
+    table true m (suc (suc (suc (suc (suc n))))) = refl
+    table false true (suc (suc (suc (suc (suc n))))) = refl
+    table false false (suc (suc (suc (suc (suc n))))) = refl
 
-pub equal-else : (op : ℕ) → (op ≡ 1 → ⊥) → (op ≡ 2 → ⊥) → (op ≡ 4 → ⊥) → testOf op Ordering·eq ≡ true
-equal-else zero a b c = refl
-equal-else (suc zero) a b c = absurd (a refl)
-equal-else (suc (suc zero)) a b c = absurd (b refl)
-equal-else (suc (suc (suc zero))) a b c = refl
-equal-else (suc (suc (suc (suc zero)))) a b c = absurd (c refl)
-equal-else (suc (suc (suc (suc (suc n))))) a b c = refl
-
-pub greater-else : (op : ℕ) → (op ≡ 0 → ⊥) → (op ≡ 2 → ⊥) → (op ≡ 3 → ⊥) → testOf op Ordering·gt ≡ true
-greater-else zero a b c = absurd (a refl)
-greater-else (suc zero) a b c = refl
-greater-else (suc (suc zero)) a b c = absurd (b refl)
-greater-else (suc (suc (suc zero))) a b c = absurd (c refl)
-greater-else (suc (suc (suc (suc zero)))) a b c = refl
-greater-else (suc (suc (suc (suc (suc n))))) a b c = refl
-
-pub equal-range : (op : ℕ) → 1 ≤ op → op < 3 → testOf op Ordering·eq ≡ false
-equal-range zero l u = absurd (omega arith)
-equal-range (suc zero) l u = refl
-equal-range (suc (suc zero)) l u = refl
-equal-range (suc (suc (suc n))) l u = absurd (omega arith)
-
-pub greater-range : (op : ℕ) → 2 ≤ op → op < 4 → testOf op Ordering·gt ≡ false
-greater-range zero l u = absurd (omega arith)
-greater-range (suc zero) l u = absurd (omega arith)
-greater-range (suc (suc zero)) l u = refl
-greater-range (suc (suc (suc zero))) l u = refl
-greater-range (suc (suc (suc (suc n)))) l u = absurd (omega arith)
+-- the two tests of integers tell their order
+pub told-integers : (x y : ℤ) → toldBy (ltZ x y) (ltZ y x) ≡ compareZ x y
+told-integers x y = go (ltZ x y) (ltZ y x) refl refl
+  where
+    go : (l m : Bool) → ltZ x y ≡ l → ltZ y x ≡ m → toldBy l m ≡ compareZ x y
+    go true m e f = sym (is-less x y e)
+    go false true e f = sym (is-greater x y f)
+    go false false e f = sym (is-equal x y e f)

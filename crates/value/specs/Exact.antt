@@ -3,10 +3,13 @@
 --   insideOf v         |num| ≤ 10^15 and 1 ≤ den ≤ 256: there a cross product is exact in 64 bits
 --   Fair v             the same of a value of the model
 --   tell o, says b     the model's order, a truth, as answers
+--   toldBy l m         the order of two values, l telling that the first is less, m that it is more; less goes first
 --   orderOf x y        the model's order inside the bounds, Outside elsewhere
 --   holdsOf o x y      whether x and y meet operator o, Outside where one is outside the bounds
 --   lowestOf n d       n / d in lowest terms
---   averageOf s n      s over n in lowest terms; zero where n is 0; Outside for n > 256 or |s| > 256 × 10^15
+--   emptyOf f          function f (0 count, 1 sum, 2 min, 3 max, 4 and above ave) of an empty set: zero, whatever f is
+--   averageOf s n      s over n in lowest terms; that of an empty set where n is 0; Outside for n > 256 or
+--                      |s| > 256 × 10^15
 use Prim.Native.Nat.{ℕ, zero, suc, _≤_, Ordering, Ordering·lt, Ordering·eq, Ordering·gt}
 use mathlib.Core.Bool.{Bool, true, false, _&&_, cond}
 use lib.Dec.{leb}
@@ -40,6 +43,11 @@ tell Ordering·lt = Less
 tell Ordering·eq = Equal
 tell Ordering·gt = Greater
 
+abbrev pub toldBy : Bool → Bool → Ordering
+toldBy true m = Ordering·lt
+toldBy false true = Ordering·gt
+toldBy false false = Ordering·eq
+
 unfoldable pub orderOf : Value → Value → Compared
 orderOf x y = cond (insideOf x && insideOf y) (tell (model.order (exact x) (exact y))) Outside
 
@@ -53,7 +61,10 @@ holdsOf o x y = cond (insideOf x && insideOf y) (says (model.meets o (exact x) (
 abbrev pub lowestOf : ℤ → ℕ → Value
 lowestOf n d = inWords (model.ratio n d)
 
+unfoldable pub emptyOf : ℕ → Value
+emptyOf f = inWords model.zeroValue
+
 unfoldable pub averageOf : ℤ → ℕ → Mean
-averageOf s zero = mean.Of (inWords model.zeroValue)
+averageOf s zero = mean.Of (emptyOf 4)
 averageOf s (suc n) =
     cond (leb (suc n) 256 && leb (natAbs s) 256000000000000000) (mean.Of (lowestOf s (suc n))) mean.Outside

@@ -5,12 +5,12 @@
 // value of an evaluated set is so (rows: proofs/FairSets.antt). Elsewhere the answer is Outside. Every average is in
 // lowest terms with a positive denominator; zero is 0/1.
 ghost use mathlib.Core.Path.{_≡_};
-ghost use Prim.Native.Nat.{_*_, _<_, _≤_, Ordering·lt, Ordering·eq, Ordering·gt};
+ghost use Prim.Native.Nat.{_*_, _<_, _≤_};
 ghost use lib.Dec.{leb};
 ghost use lib.IntN.{pos, natAbs, _*ℤ_};
 ghost use lib.Signed.{leZ};
 ghost use Rattle.model.specs.Value.{whole, gcd, testOf, compareZ};
-ghost use Rattle.value.specs.Exact.{inWords, insideOf, orderOf, tell, holdsOf, says, averageOf, lowestOf};
+ghost use Rattle.value.specs.Exact.{inWords, insideOf, orderOf, tell, toldBy, holdsOf, says, emptyOf, averageOf, lowestOf};
 
 // A value: num / den.
 pub struct Value {
@@ -150,33 +150,18 @@ pub fn order(x: Value, y: Value) -> Compared
     order_ratios(x, y)
 }
 
-// The operators that a lesser value meets.
-fn when_less(op: u8) -> bool
-    ensures { λ r. ⌜ r ≡ testOf op Ordering·lt ⌝ }
+// Whether two values meet operator op (0 =, 1 ≠, 2 <, 3 ≤, 4 >, 5 and above ≥), the first being less, or more, or
+// neither. The one table of the operators; less goes before more where both are told.
+pub fn test(op: u8, less: bool, more: bool) -> bool
+    ensures { λ r. ⌜ r ≡ testOf op (toldBy less more) ⌝ }
 {
     match op {
-        1 | 2 | 3 => true,
-        _ => false,
-    }
-}
-
-// The operators that an equal value meets.
-fn when_equal(op: u8) -> bool
-    ensures { λ r. ⌜ r ≡ testOf op Ordering·eq ⌝ }
-{
-    match op {
-        1 | 2 | 4 => false,
-        _ => true,
-    }
-}
-
-// The operators that a greater value meets.
-fn when_greater(op: u8) -> bool
-    ensures { λ r. ⌜ r ≡ testOf op Ordering·gt ⌝ }
-{
-    match op {
-        0 | 2 | 3 => false,
-        _ => true,
+        0 => !less & !more,
+        1 => less | more,
+        2 => less,
+        3 => less | !more,
+        4 => more & !less,
+        _ => !less,
     }
 }
 
@@ -187,15 +172,15 @@ fn answer(yes: bool) -> Verdict
     if yes { Verdict::Yes } else { Verdict::No }
 }
 
-// Whether two values meet operator op (0 =, 1 ≠, 2 <, 3 ≤, 4 >, 5 and above ≥).
+// Whether two values meet operator op.
 pub fn holds(op: u8, x: Value, y: Value) -> Verdict
     ensures { λ r. ⌜ r ≡ holdsOf op x y ⌝ }
 {
     let o = order(x, y);
     match o {
-        Compared::Less => answer(when_less(op)),
-        Compared::Equal => answer(when_equal(op)),
-        Compared::Greater => answer(when_greater(op)),
+        Compared::Less => answer(test(op, true, false)),
+        Compared::Equal => answer(test(op, false, false)),
+        Compared::Greater => answer(test(op, false, true)),
         Compared::Outside => Verdict::Outside,
     }
 }
@@ -223,12 +208,20 @@ fn lowest(num: i64, den: u64) -> Value
     }
 }
 
-// A sum over a count, in lowest terms; of nothing, zero.
+// Function f (0 count, 1 sum, 2 min, 3 max, 4 and above ave) of an empty set: zero, whatever f is (01, "every aggregate
+// of an empty set is zero").
+pub fn empty_of(f: u8) -> Value
+    ensures { λ r. ⌜ r ≡ emptyOf f ⌝ }
+{
+    Value { num: 0, den: 1 }
+}
+
+// A sum over a count, in lowest terms; of nothing, the average of an empty set.
 pub fn average(sum: i64, count: u64) -> Mean
     ensures { λ r. ⌜ r ≡ averageOf sum count ⌝ }
 {
     if count == 0 {
-        return Mean::Of(Value { num: 0, den: 1 });
+        return Mean::Of(empty_of(4));
     }
     if count > 256 {
         return Mean::Outside;

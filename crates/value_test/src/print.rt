@@ -1,6 +1,6 @@
 // Lines of text: numbers, values and answers in words.
+use aggregates::Aggregate;
 use rows::Added;
-use rows::Aggregate;
 use value::Compared;
 use value::Mean;
 use value::Value;
@@ -134,7 +134,7 @@ pub(crate) fn set(words: &[i64], n: usize, m: usize) {
 // The value at place p.
 pub(crate) fn entry(words: &[i64], p: usize) {
     say(b" ");
-    ratio(rows::read(words, p));
+    ratio(words::read(words, p));
 }
 
 // The first n values of a row.

@@ -36,8 +36,8 @@ fn insert_two(words: &mut [i64], count: usize, x: Value, y: Value) -> usize
     ensures { λ r. ⌜ r ≤ 1 ⌝ }
 {
     let mut row: [i64; 4] = [0; 4];
-    rows::write(&mut row, 0, x);
-    rows::write(&mut row, 1, y);
+    words::write(&mut row, 0, x);
+    words::write(&mut row, 1, y);
     insert(words, 2, count, &row)
 }
 
@@ -56,7 +56,7 @@ fn aggregate(words: &[i64], n: usize, count: usize, f: u8, c: usize) {
     print::place(b" of ", n);
     print::place(b", rows ", count);
     print::say(b", is ");
-    print::aggregate(rows::aggregate_of(words, n, count, f, c));
+    print::aggregate(aggregates::aggregate_of(words, n, count, f, c));
     print::say(b"\n");
 }
 
@@ -101,8 +101,8 @@ fn strangers(words: &mut [i64]) {
 // A value outside the bounds written over one of a column.
 fn spoiled(words: &mut [i64]) {
     let odd = print::over(1, 257);
-    answer(b"write 1/257 at place 1: ", rows::write(words, 1, odd));
-    answer(b"write 1/257 at place 13: ", rows::write(words, 13, odd));
+    answer(b"write 1/257 at place 1: ", words::write(words, 1, odd));
+    answer(b"write 1/257 at place 13: ", words::write(words, 13, odd));
     aggregate(words, 2, 6, 0, 1);
     aggregate(words, 2, 6, 1, 1);
     aggregate(words, 2, 6, 2, 1);
@@ -165,7 +165,7 @@ fn put(row: &mut [i64], p: usize, sum: i64, count: u64) {
     let m = value::average(sum, count);
     match m {
         Mean::Of(v) => {
-            rows::write(row, p, v);
+            words::write(row, p, v);
         }
         Mean::Outside => {}
     }
@@ -201,17 +201,17 @@ fn fill(words: &mut [i64]) -> usize
 // A set copied, and buffers made zero.
 fn buffers(words: &mut [i64]) {
     let mut result: [i64; 2048] = [7; 2048];
-    answer(b"copy 1023 values: ", rows::copy(words, &mut result, 1023));
+    answer(b"copy 1023 values: ", words::copy(words, &mut result, 1023));
     print::say(b"value 1022 and the next:");
     print::row(&result[2044..], 2);
     answer(
         b"\ncopy 1025 values: ",
-        rows::copy(words, &mut result, 1025),
+        words::copy(words, &mut result, 1025),
     );
-    answer(b"zero 2046 words: ", rows::zero(&mut result, 2046));
+    answer(b"zero 2046 words: ", words::zero(&mut result, 2046));
     print::say(b"value 1022 and the next:");
     print::row(&result[2044..], 2);
-    answer(b"\nzero 2049 words: ", rows::zero(&mut result, 2049));
+    answer(b"\nzero 2049 words: ", words::zero(&mut result, 2049));
 }
 
 // A set of drawn rows, to the 257th.

@@ -4,7 +4,7 @@ use mathlib.Core.Path.{sym, _∙_}
 use borrow.Author.Tests.{ltb-true}
 use lib.Dec.{ltb}
 use Rattle.syntax.proofs.Laws.{both}
-use Rattle.tables.proofs.IndexNumbers.{index-data, index-absent}
+use Rattle.indexes.proofs.IndexNumbers.{index-data, index-absent}
 use Rattle.capi.proofs.CallLaws.{absent}
 use borrow.Author.Needs.{needs}
 use Rattle.capi.proofs.abe_index.Statement.{statement}
@@ -12,7 +12,7 @@ use Rattle.capi.proofs.abe_index.Tie as tie
 use Rattle.capi.proofs.abe_index.Reads as reads
 use Rattle.capi.proofs.abe_index.Lts as lts
 use Rattle.tables.proofs.check.Reads as check-reads
-use Rattle.tables.proofs.index.Reads as index-reads
+use Rattle.indexes.proofs.index.Reads as index-reads
 
 -- src/lib.rt:81:37
 cast-index : tie.Need-cast-index

@@ -3,7 +3,7 @@ use native.Mathlib.Omega.{arith}
 use mathlib.Core.Path.{sym, ap, _∙_}
 use lib.IntN.{pos}
 use lib.Signed.{leZ}
-use Rattle.rows.specs.Words.{readAt}
+use Rattle.words.specs.Words.{readAt}
 use Rattle.value.specs.declared.Value.{Value}
 use Rattle.filing.proofs.Cases.{filed-past, filed-in}
 use borrow.Author.Needs.{needs}

@@ -1,4 +1,5 @@
--- A group and a slot: the value there is read. One of them wanting, or no such block: zero. Assumes nothing.
+-- A group and a slot: the value there is read. One of them wanting, or no such block: that of an empty set. Assumes
+-- nothing.
 use borrow.Author.Needs.{needs}
 use lib.ListN.{getD}
 use mathlib.Core.Path.{refl, sym, ap, _∙_}
@@ -8,6 +9,9 @@ use Rattle.groups.specs.Asking.{asking, slotOf}
 use Rattle.groups.specs.Groups.{grouping}
 use Rattle.groups.proofs.aggregate_in.Statement.{statement}
 use Rattle.groups.proofs.aggregate_in.Tie as tie
+
+empty-of-requires : tie.Need-empty-of-requires
+empty-of-requires c κs = search needs
 
 wide-requires : tie.Need-wide-requires
 wide-requires c κs = search needs
@@ -29,7 +33,7 @@ read-requires c κs = search needs
 
 returns : tie.Need-returns
 returns c h e =
-    let a = c .before .before .before .before .before .before .before .args in
+    let a = c .before .before .before .before .before .before .before .before .args in
     let w = c .before .before .before .before .before .before .wide in
     let s = c .before .before .before .slot-among in
     let gs = a .groups .now in
@@ -42,21 +46,23 @@ returns c h e =
 
 returns-2 : tie.Need-returns-2
 returns-2 c h e =
-    let a = c .before .before .before .before .before .args in
+    let a = c .before .before .before .before .before .before .args in
     let w = c .before .before .before .before .wide in
     let s = c .before .slot-among in
     let gs = a .groups .now in
     let q = asking (a .functions .now) (a .columns .now) in
-    aggregate-none q (a .files .now) (grouping gs) (a .function) (a .block) (a .column) (getD gs (w .result) 0)
+    c .before .before .before .before .before .empty-of .ensures
+    ∙ aggregate-none q (a .files .now) (grouping gs) (a .function) (a .block) (a .column) (getD gs (w .result) 0)
     (s .result) (default-inside gs (w .result) 0 256 (omega arith) ∙ ap (λ i. getD gs i 256) (w .ensures .0))
     (s .ensures h ∙ ap (λ k. slotOf q k (a .function) (a .column)) (w .ensures .0)) (c .if2 .left)
 
 returns-3 : tie.Need-returns-3
 returns-3 c h e =
-    let a = c .before .before .args in
+    let a = c .before .before .before .args in
     let gs = a .groups .now in
     let q = asking (a .functions .now) (a .columns .now) in
-    aggregate-none q (a .files .now) (grouping gs) (a .function) (a .block) (a .column) 256
+    c .before .before .empty-of .ensures
+    ∙ aggregate-none q (a .files .now) (grouping gs) (a .function) (a .block) (a .column) 256
     (slotOf q (a .block) (a .function) (a .column))
     (sym (default-past gs (a .block) 256 (omega (arith, c .before .wide .ensures .0)))) refl refl
 
@@ -64,6 +70,7 @@ pub aggregate-in-spec : {M : Type 1} → statement M
 aggregate-in-spec =
     tie.close
     (tie.spec
+    empty-of-requires
     wide-requires
     mul-group
     element-copy-out-group

@@ -1,5 +1,6 @@
 -- `limits::count_conditions` meets its contract. The loop's invariant: the conditions left, counted after those passed,
 -- give the whole. Where the bytes end the elements left are empty.
+use borrow.Author.Needs.{needs}
 use native.Mathlib.Omega.{arith}
 use mathlib.Core.Path.{_≡_, refl}
 use lib.ListN.{length}
@@ -50,37 +51,34 @@ count-at-requires-2 c κs =
     let g = going (turn .loop .more) (turn .loop .i) (length bytes) (c .before .loop-test .taken) in
     omega arith
 
-add-i : tie.Need-add-i Inv-loop μ-loop
-add-i c =
-    let turn = c .before .before .before in
-    let bytes = turn .before .before .args .s .now in
-    let g = going (turn .loop .more) (turn .loop .i) (length bytes) (c .before .before .loop-test .taken) in
-    omega arith
+condition-end-requires : tie.Need-condition-end-requires Inv-loop μ-loop
+condition-end-requires c κs = search needs
 
 sub-more : tie.Need-sub-more Inv-loop μ-loop
 sub-more c =
-    let turn = c .before .before .before in
+    let turn = c .before .before .before .before in
     let bytes = turn .before .before .args .s .now in
-    let g = going (turn .loop .more) (turn .loop .i) (length bytes) (c .before .before .loop-test .taken) in
+    let g = going (turn .loop .more) (turn .loop .i) (length bytes) (c .before .before .before .loop-test .taken) in
     omega arith
 
 loop-less : tie.Need-loop-less Inv-loop μ-loop
 loop-less c =
-    let turn = c .before .before .before in
+    let turn = c .before .before .before .before in
     let bytes = turn .before .before .args .s .now in
-    let g = going (turn .loop .more) (turn .loop .i) (length bytes) (c .before .before .loop-test .taken) in
+    let g = going (turn .loop .more) (turn .loop .i) (length bytes) (c .before .before .before .loop-test .taken) in
     omega arith
 
 -- one condition more
 loop-again : tie.Need-loop-again Inv-loop μ-loop
 loop-again c =
-    let turn = c .before .before .before in
+    let turn = c .before .before .before .before in
     let bytes = turn .before .before .args .s .now in
-    let g = going (turn .loop .more) (turn .loop .i) (length bytes) (c .before .before .loop-test .taken) in
+    let g = going (turn .loop .more) (turn .loop .i) (length bytes) (c .before .before .before .loop-test .taken) in
     cc (
       turn .loop .inv,
-      c .before .count-at .ensures,
-      c .count-at2 .ensures,
+      c .before .before .count-at .ensures,
+      c .before .count-at2 .ensures,
+      c .condition-end .ensures,
       conditions-turn bytes (turn .loop .y) (turn .loop .more) (turn .loop .i) (g .0),
     )
 
@@ -105,7 +103,7 @@ count-conditions-spec =
     add-count-at-2
     count-at-requires
     count-at-requires-2
-    add-i
+    condition-end-requires
     sub-more
     loop-less
     loop-again

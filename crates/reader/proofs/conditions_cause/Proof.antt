@@ -1,3 +1,4 @@
+use borrow.Author.Needs.{needs}
 use native.Mathlib.Omega.{arith}
 use mathlib.Core.Path.{refl}
 use lib.ListN.{length}
@@ -26,28 +27,27 @@ add-elements-cause c = let g = going (c .before .loop .more) (c .before .loop .i
 elements-cause-requires : tie.Need-elements-cause-requires Inv-loop μ-loop
 elements-cause-requires c κs = c .before .loop .inv .small
 
-add-i : tie.Need-add-i Inv-loop μ-loop
-add-i c = let g = going (c .before .before .loop .more) (c .before .before .loop .i)
-    (length (c .before .before .before .before .args .s .now)) (c .before .loop-test .taken) in
-    omega arith
+condition-end-requires : tie.Need-condition-end-requires Inv-loop μ-loop
+condition-end-requires c κs = search needs
 
 sub-more : tie.Need-sub-more Inv-loop μ-loop
-sub-more c = let g = going (c .before .before .loop .more) (c .before .before .loop .i)
-    (length (c .before .before .before .before .args .s .now)) (c .before .loop-test .taken) in
+sub-more c = let g = going (c .before .before .before .loop .more) (c .before .before .before .loop .i)
+    (length (c .before .before .before .before .before .args .s .now)) (c .before .before .loop-test .taken) in
     omega arith
 
 loop-less : tie.Need-loop-less Inv-loop μ-loop
-loop-less c = let g = going (c .before .before .loop .more) (c .before .before .loop .i)
-    (length (c .before .before .before .before .args .s .now)) (c .before .loop-test .taken) in
+loop-less c = let g = going (c .before .before .before .loop .more) (c .before .before .before .loop .i)
+    (length (c .before .before .before .before .before .args .s .now)) (c .before .before .loop-test .taken) in
     omega arith
 
 loop-again : tie.Need-loop-again Inv-loop μ-loop
-loop-again c = let g = going (c .before .before .loop .more) (c .before .before .loop .i)
-    (length (c .before .before .before .before .args .s .now)) (c .before .loop-test .taken) in
-    conditions-more (c .before .before .before .before .args .s .now)
-    (c .before .before .before .before .args .x) (c .before .before .loop .more) (c .before .before .loop .i)
-    (c .before .before .loop .least) _ (c .elements-cause .result) (g .0) (c .elements-cause .ensures .0)
-    (c .elements-cause .ensures .1) (c .before .before .loop .inv)
+loop-again c =
+    let a = c .before .before .before .before .before .args in
+    let l = c .before .before .before .loop in
+    let e = c .before .elements-cause in
+    let g = going (l .more) (l .i) (length (a .s .now)) (c .before .before .loop-test .taken) in
+    conditions-more (a .s .now) (a .x) (l .more) (l .i) (l .least) _ (e .result) (g .0) (e .ensures .0) (e .ensures .1)
+    (c .condition-end .ensures) (l .inv)
 
 returns : tie.Need-returns Inv-loop μ-loop
 returns c = (
@@ -66,7 +66,7 @@ conditions-cause-spec =
     loop-holds
     add-elements-cause
     elements-cause-requires
-    add-i
+    condition-end-requires
     sub-more
     loop-less
     loop-again

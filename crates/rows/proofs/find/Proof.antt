@@ -3,7 +3,7 @@ use mathlib.Core.Path.{sym, ap₂, _∙_}
 use borrow.Author.Tests.{not-true, not-false}
 use lib.ListN.{length}
 use Rattle.rows.specs.Insertion.{fitsIn}
-use Rattle.rows.specs.Words.{roomOf}
+use Rattle.words.specs.Words.{roomOf}
 use Rattle.rows.proofs.CaseLaws.{unfit, found, fit}
 use borrow.Author.Needs.{needs}
 use Rattle.rows.proofs.find.Statement.{statement}

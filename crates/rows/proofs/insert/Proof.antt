@@ -3,7 +3,7 @@ use native.Mathlib.Omega.{arith}
 use mathlib.Core.Path.{sym, _∙_}
 use lib.ListN.{length}
 use Rattle.rows.specs.Insertion.{atPlace}
-use Rattle.rows.specs.Words.{roomOf}
+use Rattle.words.specs.Words.{roomOf}
 use Rattle.rows.proofs.CaseLaws.{placed, found, fit, new-fits, after-refused, after-there, after-outside}
 use Rattle.rows.proofs.SearchLoop.{bisect-top}
 use borrow.Author.Needs.{needs}

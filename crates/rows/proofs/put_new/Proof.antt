@@ -2,13 +2,12 @@
 use Prim.Native.Nat.{_+_, _*_}
 use native.Mathlib.Nat.{mul-le-mul-right}
 use native.Mathlib.Omega.{arith}
-use mathlib.Core.List.{List}
-use mathlib.Core.Path.{_≡_, sym, ap, _∙_}
-use lib.IntN.{ℤ}
+use mathlib.Core.Path.{sym, _∙_}
 use lib.ListN.{length}
-use lib.Seq.{paste}
-use Rattle.rows.specs.Words.{roomOf, wordsOf}
-use Rattle.rows.proofs.CaseLaws.{product-few, new-large, new-short, new-put, after-large, after-refused}
+use Rattle.words.specs.Words.{roomOf}
+use Rattle.words.proofs.InsertLaws.{insertable-all, inserted}
+use Rattle.words.proofs.WordLaws.{product-few}
+use Rattle.rows.proofs.CaseLaws.{new-large, new-short, new-put, after-large, after-refused}
 use Rattle.rows.proofs.CaseLaws.{after-new}
 use borrow.Author.Needs.{needs}
 use Rattle.rows.proofs.put_new.Statement.{statement}
@@ -44,56 +43,40 @@ returns-2 c =
       after-refused (a .n) (a .count) (a .words .now) (a .row .now),
     )
 
-mul-shift : tie.Need-mul-shift
-mul-shift c =
+mul-insert-values : tie.Need-mul-insert-values
+mul-insert-values c =
     omega (
       arith,
       product-few (c .before .before .before .before .args .k) (c .before .before .before .before .args .n) 256
           (omega arith) (c .before .before .before .before .pre .1),
     )
 
-mul-shift-2 : tie.Need-mul-shift-2
-mul-shift-2 c =
+mul-insert-values-2 : tie.Need-mul-insert-values-2
+mul-insert-values-2 c =
     omega (
       arith,
       product-few (c .before .before .before .before .args .count) (c .before .before .before .before .args .n) 256
           (omega arith) (c .before .before .before .before .pre .1),
     )
 
-shift-requires : tie.Need-shift-requires
-shift-requires c κs =
-    let a = c .before .before .before .before .args in
-    let m = mul-le-mul-right (a .n) (c .before .before .before .before .pre .0) in
-    (omega arith, omega arith)
-
-mul-put-row : tie.Need-mul-put-row
-mul-put-row c =
-    omega (
-      arith,
-      product-few (c .before .before .before .before .before .before .before .args .k)
-          (c .before .before .before .before .before .before .before .args .n) 256 (omega arith)
-          (c .before .before .before .before .before .before .before .pre .1),
-    )
-
-put-row-requires : tie.Need-put-row-requires
-put-row-requires c κs =
-    let a = c .before .before .before .before .before .before .before .args in
-    let m = mul-le-mul-right (a .n) (c .before .before .before .before .before .before .before .pre .0) in
-    let e : length (c .before .before .shift .last .0) ≡ length (a .words .now) = c .before .before .shift .kept .0 in
-    let p = c .before .before .before .before .before .before .before .pre in
-    (p .1, omega arith, p .3)
+insert-values-requires : tie.Need-insert-values-requires
+insert-values-requires c κs = search needs
 
 same-length : tie.Need-same-length
 same-length c = search needs
 
 returns-3 : tie.Need-returns-3
 returns-3 c =
-    let a = c .before .before .before .before .before .before .before .before .before .args in
+    let a = c .before .before .before .before .before .before .args in
+    let pre = c .before .before .before .before .before .before .pre in
     let w = roomOf (length (a .words .now)) in
-    let put = ap (λ (s : List ℤ). paste s (wordsOf (a .k * a .n)) (a .row .now) (wordsOf (a .n)))
-    (c .before .before .before .before .shift .ensures) in (
+    let m = mul-le-mul-right (a .n) (pre .0) in
+    let fit = insertable-all (a .k * a .n) (a .count * a .n) (a .n) w (roomOf (length (a .row .now))) (pre .1) m (pre .3)
+    (omega arith) in (
       sym (new-put (a .n) (a .count) w (a .k) (omega arith) (omega arith)),
-      c .before .put-row .ensures ∙ put ∙ after-new (a .n) (a .count) (a .words .now) (a .row .now) (a .k),
+      c .before .insert-values .ensures .1
+          ∙ inserted (a .k * a .n) (a .count * a .n) (a .n) (a .row .now) (a .words .now) fit
+          ∙ after-new (a .n) (a .count) (a .words .now) (a .row .now) (a .k),
     )
 
 pub put-new-spec : {M : Type 1} → statement M
@@ -105,10 +88,8 @@ put-new-spec =
     add-if2
     mul-if2
     returns-2
-    mul-shift
-    mul-shift-2
-    shift-requires
-    mul-put-row
-    put-row-requires
+    mul-insert-values
+    mul-insert-values-2
+    insert-values-requires
     same-length
     returns-3)

@@ -8,15 +8,15 @@ use Rattle.scope.proofs.named.Tie as tie
 elements-hold-requires : tie.Need-elements-hold-requires
 elements-hold-requires c κs = search needs
 
-records-hold-requires : tie.Need-records-hold-requires
-records-hold-requires c κs = search needs
+conditions-hold-requires : tie.Need-conditions-hold-requires
+conditions-hold-requires c κs = search needs
 
 returns : tie.Need-returns
 returns c =
     let a = c .before .before .before .args in
     let outputs = c .before .elements-hold in
-    let conditions = c .records-hold in
+    let conditions = c .conditions-hold in
     named-is (a .s .now) (a .b) (outputs .result) (conditions .result) (outputs .ensures) (conditions .ensures)
 
 pub named-spec : {M : Type 1} → statement M
-named-spec = tie.close (tie.spec elements-hold-requires records-hold-requires returns)
+named-spec = tie.close (tie.spec elements-hold-requires conditions-hold-requires returns)

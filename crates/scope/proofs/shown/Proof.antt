@@ -5,8 +5,8 @@ use Rattle.scope.proofs.HeldLaws.{shown-is}
 use Rattle.scope.proofs.shown.Statement.{statement}
 use Rattle.scope.proofs.shown.Tie as tie
 
-records-hold-requires : tie.Need-records-hold-requires
-records-hold-requires c κs = search needs
+conditions-hold-requires : tie.Need-conditions-hold-requires
+conditions-hold-requires c κs = search needs
 
 elements-hold-requires : tie.Need-elements-hold-requires
 elements-hold-requires c κs = search needs
@@ -14,9 +14,9 @@ elements-hold-requires c κs = search needs
 returns : tie.Need-returns
 returns c =
     let a = c .before .before .before .args in
-    let conditions = c .before .records-hold in
+    let conditions = c .before .conditions-hold in
     let outputs = c .elements-hold in
     shown-is (a .s .now) (a .b) (conditions .result) (outputs .result) (conditions .ensures) (outputs .ensures)
 
 pub shown-spec : {M : Type 1} → statement M
-shown-spec = tie.close (tie.spec records-hold-requires elements-hold-requires returns)
+shown-spec = tie.close (tie.spec conditions-hold-requires elements-hold-requires returns)

@@ -12,8 +12,8 @@ order-requires c κs = search needs
 enum-told : tie.Need-enum-told
 enum-told c = search needs
 
-when-less-requires : tie.Need-when-less-requires
-when-less-requires c κs = search needs
+test-requires : tie.Need-test-requires
+test-requires c κs = search needs
 
 answer-requires : tie.Need-answer-requires
 answer-requires c κs = search needs
@@ -21,8 +21,8 @@ answer-requires c κs = search needs
 enum-told-2 : tie.Need-enum-told-2
 enum-told-2 c = search needs
 
-when-equal-requires : tie.Need-when-equal-requires
-when-equal-requires c κs = search needs
+test-requires-2 : tie.Need-test-requires-2
+test-requires-2 c κs = search needs
 
 answer-requires-2 : tie.Need-answer-requires-2
 answer-requires-2 c κs = search needs
@@ -30,8 +30,8 @@ answer-requires-2 c κs = search needs
 enum-told-3 : tie.Need-enum-told-3
 enum-told-3 c = search needs
 
-when-greater-requires : tie.Need-when-greater-requires
-when-greater-requires c κs = search needs
+test-requires-3 : tie.Need-test-requires-3
+test-requires-3 c κs = search needs
 
 answer-requires-3 : tie.Need-answer-requires-3
 answer-requires-3 c κs = search needs
@@ -44,21 +44,21 @@ returns c =
     let a = c .before .before .before .before .before .args in
     let by = holds-by (a .x) (a .y) (a .op) in
     let o = sym (c .before .before .before .before .order .ensures) ∙ c .before .before .enum-told .given .1 in
-    c .answer .ensures ∙ ap says (c .before .when-less .ensures) ∙ sym (by ∙ ap (judge (a .op)) o)
+    c .answer .ensures ∙ ap says (c .before .test .ensures) ∙ sym (by ∙ ap (judge (a .op)) o)
 
 returns-2 : tie.Need-returns-2
 returns-2 c =
     let a = c .before .before .before .before .before .args in
     let by = holds-by (a .x) (a .y) (a .op) in
     let o = sym (c .before .before .before .before .order .ensures) ∙ c .before .before .enum-told2 .given .1 in
-    c .answer2 .ensures ∙ ap says (c .before .when-equal .ensures) ∙ sym (by ∙ ap (judge (a .op)) o)
+    c .answer2 .ensures ∙ ap says (c .before .test2 .ensures) ∙ sym (by ∙ ap (judge (a .op)) o)
 
 returns-3 : tie.Need-returns-3
 returns-3 c =
     let a = c .before .before .before .before .before .args in
     let by = holds-by (a .x) (a .y) (a .op) in
     let o = sym (c .before .before .before .before .order .ensures) ∙ c .before .before .enum-told3 .given .1 in
-    c .answer3 .ensures ∙ ap says (c .before .when-greater .ensures) ∙ sym (by ∙ ap (judge (a .op)) o)
+    c .answer3 .ensures ∙ ap says (c .before .test3 .ensures) ∙ sym (by ∙ ap (judge (a .op)) o)
 
 returns-4 : tie.Need-returns-4
 returns-4 c =
@@ -73,13 +73,13 @@ holds-spec =
     (tie.spec
     order-requires
     enum-told
-    when-less-requires
+    test-requires
     answer-requires
     enum-told-2
-    when-equal-requires
+    test-requires-2
     answer-requires-2
     enum-told-3
-    when-greater-requires
+    test-requires-3
     answer-requires-3
     enum-told-4
     returns

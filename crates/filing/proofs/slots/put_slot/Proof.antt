@@ -1,7 +1,7 @@
 -- `filing::slots::put_slot` meets its contract: the value of the aggregate is written at the place.
 use mathlib.Core.Path.{ap, _∙_}
-use Rattle.rows.specs.Columns.{aggregateIn}
-use Rattle.rows.specs.Words.{wordsWith}
+use Rattle.aggregates.specs.Columns.{aggregateIn}
+use Rattle.words.specs.Words.{wordsWith}
 use Rattle.filing.specs.Files.{told}
 use borrow.Author.Needs.{needs}
 use Rattle.filing.proofs.slots.put_slot.Statement.{statement}

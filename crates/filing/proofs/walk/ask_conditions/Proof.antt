@@ -1,5 +1,6 @@
 -- `filing::walk::ask_conditions` meets its contract. The loop's invariant: the conditions left, after those passed,
 -- give the whole. Where the bytes end the elements left are empty.
+use borrow.Author.Needs.{needs}
 use Prim.Native.Nat.{_+_, _-_}
 use native.Mathlib.Omega.{arith}
 use mathlib.Core.Path.{_≡_, refl, sym, ap, _∙_}
@@ -51,36 +52,33 @@ ask-at-requires-2 c κs =
     let g = going (turn .loop .more) (turn .loop .i) (length bytes) (c .before .loop-test .taken) in
     omega arith
 
-add-i : tie.Need-add-i Inv-loop μ-loop
-add-i c =
-    let turn = c .before .before .before in
-    let bytes = turn .before .before .args .s .now in
-    let g = going (turn .loop .more) (turn .loop .i) (length bytes) (c .before .before .loop-test .taken) in
-    omega arith
+condition-end-requires : tie.Need-condition-end-requires Inv-loop μ-loop
+condition-end-requires c κs = search needs
 
 sub-more : tie.Need-sub-more Inv-loop μ-loop
 sub-more c =
-    let turn = c .before .before .before in
+    let turn = c .before .before .before .before in
     let bytes = turn .before .before .args .s .now in
-    let g = going (turn .loop .more) (turn .loop .i) (length bytes) (c .before .before .loop-test .taken) in
+    let g = going (turn .loop .more) (turn .loop .i) (length bytes) (c .before .before .before .loop-test .taken) in
     omega arith
 
 loop-less : tie.Need-loop-less Inv-loop μ-loop
 loop-less c =
-    let turn = c .before .before .before in
+    let turn = c .before .before .before .before in
     let bytes = turn .before .before .args .s .now in
-    let g = going (turn .loop .more) (turn .loop .i) (length bytes) (c .before .before .loop-test .taken) in
+    let g = going (turn .loop .more) (turn .loop .i) (length bytes) (c .before .before .before .loop-test .taken) in
     omega arith
 
 -- one condition more
 loop-again : tie.Need-loop-again Inv-loop μ-loop
 loop-again c =
-    let turn = c .before .before .before in
+    let turn = c .before .before .before .before in
     let bytes = turn .before .before .args .s .now in
-    let g = going (turn .loop .more) (turn .loop .i) (length bytes) (c .before .before .loop-test .taken) in
-    let left = c .before .ask-at .ensures in
-    let both = c .ask-at2 .ensures ∙ ap (λ y. askOf y (elementAt bytes (turn .loop .i + 12))) left in
-    ap (λ y. askAll y (concatMap sides (conditionsAt bytes (turn .loop .more - 1) (turn .loop .i + 21)))) both
+    let g = going (turn .loop .more) (turn .loop .i) (length bytes) (c .before .before .before .loop-test .taken) in
+    let left = c .before .before .ask-at .ensures in
+    let both = c .before .ask-at2 .ensures ∙ ap (λ y. askOf y (elementAt bytes (turn .loop .i + 12))) left in
+    (λ j. askAll (both j)
+    (concatMap sides (conditionsAt bytes (turn .loop .more - 1) (c .condition-end .ensures j))))
     ∙ sym (conditions-turn bytes (turn .loop .y) (turn .loop .more) (turn .loop .i) (g .0))
     ∙ turn .loop .inv
 
@@ -103,7 +101,7 @@ ask-conditions-spec =
     add-ask-at-2
     ask-at-requires
     ask-at-requires-2
-    add-i
+    condition-end-requires
     sub-more
     loop-less
     loop-again

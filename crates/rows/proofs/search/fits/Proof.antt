@@ -1,7 +1,8 @@
 -- `search::fits` meets its contract: the tests of `fitsIn`, one by one. Assumes nothing.
 use mathlib.Core.Path.{sym}
 use native.Mathlib.Omega.{arith}
-use Rattle.rows.proofs.CaseLaws.{unfit-none, unfit-wide, unfit-many, unfit-row, fit-words, product-few}
+use Rattle.words.proofs.WordLaws.{product-few}
+use Rattle.rows.proofs.CaseLaws.{unfit-none, unfit-wide, unfit-many, unfit-row, fit-words}
 use Rattle.rows.proofs.search.fits.Statement.{statement}
 use Rattle.rows.proofs.search.fits.Tie as tie
 

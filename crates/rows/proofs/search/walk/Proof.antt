@@ -4,8 +4,9 @@ use native.Mathlib.Omega.{arith}
 use mathlib.Core.Path.{sym, _∙_}
 use lib.ListN.{length}
 use Rattle.rows.specs.Insertion.{atPlace, middle, bisect}
-use Rattle.rows.specs.Words.{roomOf}
-use Rattle.rows.proofs.CaseLaws.{place-fits, product-few}
+use Rattle.words.specs.Words.{roomOf}
+use Rattle.words.proofs.WordLaws.{product-few}
+use Rattle.rows.proofs.CaseLaws.{place-fits}
 use Rattle.rows.proofs.SearchLoop.{Between, between-begin, narrower, middle-below}
 use Rattle.rows.proofs.WalkLoop.{walk-found, walk-more, walk-left}
 use Rattle.rows.proofs.search.walk.Statement.{statement}

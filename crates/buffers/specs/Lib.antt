@@ -1,0 +1,2 @@
+-- The parts of the work buffers.
+pub mod Parts

@@ -1,0 +1,2 @@
+-- The laws of the clock, that callers cite.
+pub mod ClockLaws

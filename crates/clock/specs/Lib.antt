@@ -1,0 +1,2 @@
+-- The trials counted against the budget.
+pub mod Clock

@@ -1,3 +1,0 @@
--- Blocks whose rows are cells of one table (Direct), and how they lie in words (Stored).
-pub mod Direct
-pub mod Stored
