@@ -2,6 +2,7 @@
 pub mod SureLaws
 pub mod SureBlocks
 pub mod RowLaws
+pub mod HeldLaws
 pub mod AccessLaws
 pub mod KeyLaws
 pub mod MergeFreeLaws

@@ -55,4 +55,7 @@ pub mod MetLaws
 pub mod AgainLaws
 pub mod ScanStepLaws
 pub mod AfterLaws
+pub mod PaidLaws
+pub mod EarlyLaws
+pub mod PruningExamples
 pub mod ListingExamples
