@@ -214,7 +214,7 @@ def question_of(job):
 
 def stored_jobs():
     """Each stored job, with the question that it is, its number and its trials."""
-    for name in ("questions", "limits", "random"):
+    for name in ("questions", "limits", "random", "joined"):
         lines = (TESTS / f"stored/{name}.answers").read_text().splitlines()
         for job in fmt.jobs_of((TESTS / f"stored/{name}.stream").read_bytes()):
             number, rows, _, trials = map(int, lines.pop(0).split())

@@ -57,7 +57,8 @@ def stored_files():
     """The generated files: name and bytes."""
     streams = {"questions": list(question_jobs().values()),
                "limits": [job for _, job, _ in limits.limit_jobs(long=False)],
-               "random": generate.random_jobs(JOBS_SEED, JOBS)}
+               "random": generate.random_jobs(JOBS_SEED, JOBS),
+               "joined": generate.joined_jobs(generate.JOINED_SEED, generate.JOINED)}
     for name, jobs in streams.items():
         yield f"{name}.stream", fmt.stream_bytes(jobs)
         yield f"{name}.answers", "".join(evaluator.answer_text(evaluator.run_job(job)) for job in jobs).encode()
@@ -135,12 +136,13 @@ def check_stored():
         same(f"stored/{name}", path.read_bytes(), wanted)
     present = {str(path.relative_to(STORED)) for path in STORED.rglob("*") if path.is_file()}
     same("files under stored/", sorted(present), sorted(files))
-    for name in ("questions", "limits", "random"):
+    for name in ("questions", "limits", "random", "joined"):
         for job in fmt.jobs_of(files[f"{name}.stream"]):
             if len(job.data) > 1_024 or len(job.question) > 4_096 or len(job.plan) > 64:
                 raise Differs(f"a job of {name}.stream is longer than README.md says")
     same("numbers met in limits.stream", numbers_of(files["limits.answers"]), {*range(14)})
     same("numbers met in random.stream", numbers_of(files["random.answers"]), {0, *range(3, 14)})
+    same("numbers met in joined.stream", numbers_of(files["joined.answers"]), {0, 12, 13})
     return f"{len(files)} stored files, {sum(map(len, files.values())):,} bytes"
 
 
@@ -162,12 +164,19 @@ def check_round_trip():
     return f"{shown} jobs"
 
 
+def drafts(draw, count, crowded, joined):
+    """`count` accepted questions, of every `crowded` one crowded, and after them `joined` joins."""
+    for place in range(count):
+        yield generate.crowded_draft(draw) if place % crowded == 0 else generate.random_draft(draw)
+    for _ in range(joined):
+        yield generate.joined_draft(draw)
+
+
 def check_plans():
     """Demand 3: all admitted plans give the same rows and the same refusal by 13, and file to index to merging never
     raises the count; the count itself is met as a budget and missed by one."""
     draw, plans = Draw(33), 0
-    for place in range(250):
-        draft = generate.crowded_draft(draw) if place % 25 == 0 else generate.random_draft(draw)
+    for place, draft in enumerate(drafts(draw, 250, 25, 80)):
         matching, counts, outcomes = draft.matching(), {}, set()
         for paths in itertools.islice(itertools.product(*draft.admitted()), MOST_PLANS):
             counts[paths] = Trials(matching, [Path(*path) for path in paths]).count()
@@ -176,7 +185,7 @@ def check_plans():
         same(f"outcomes of question {place} under its plans", len(outcomes), 1)
         check_counts(place, counts)
         plans += len(counts)
-    return f"{plans} plans of 250 questions"
+    return f"{plans} plans of 330 questions"
 
 
 def check_plan(draft, trials):
@@ -205,8 +214,7 @@ def check_counts(place, counts):
 def check_sqlite():
     """SQLite's rows, trials and largest set against the evaluator's."""
     draw, questions, plans = Draw(44), 0, 0
-    for place in range(400):
-        draft = generate.crowded_draft(draw) if place % 10 == 0 else generate.random_draft(draw)
+    for place, draft in enumerate(drafts(draw, 400, 10, 120)):
         job = draft.job()
         matching = Matching(read_question(job.question), tables_of(job.data))
         sql = Sql(matching.blocks, matching.tables)

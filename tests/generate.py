@@ -1,9 +1,10 @@
 """Jobs at random from a seed: accepted questions with all admitted plans, values that come again, projections of tables
-and blocks over them, crowded sets, limits, damaged jobs.
+and blocks over them, relation rows joined by conditions, crowded sets, limits, damaged jobs.
 
-Command line: `generate.py jobs SEED COUNT > stream`, `generate.py indexes SEED COUNT > index stream`; the answers
-are `evaluator.py answers < stream` and `evaluator.py indexes < index stream`. `generate.py limits > stream` has the
-limit jobs alone, those over 4,000 words too.
+Command line: `generate.py jobs SEED COUNT > stream`, `generate.py joined SEED COUNT > stream` for joins alone,
+`generate.py indexes SEED COUNT > index stream`; the answers are `evaluator.py answers < stream` and
+`evaluator.py indexes < index stream`. `generate.py limits > stream` has the limit jobs alone, those over 4,000 words
+too.
 """
 
 import sys
@@ -25,6 +26,9 @@ SMALL = [-1, 0, 0, 1, 1, 1, 2, 2, 3]
 SHARING = [0, 0, 256, -1, 1, 1, 1, 257, 257, -2]    # values that share a mark: 0, 256 and -1; 1, 257 and -2
 TOP_ROWS = [0, 1, 1, 1, 2, 2, 2, 3], [1, 2, 2, 2, 3]            # how many relation rows: block 0 with children, without
 BELOW_ROWS = [0, 1, 1, 1, 1, 2, 3], [1, 1, 1, 1, 2, 2, 3]       # .. every other block
+FAR = [1_000_000, -1_000_000, 1_000_001, -1_000_001, 10**15, -10**15,       # the values' ends, past them, and what has
+       2**32, 2**32 + 1, 2 - 2**32]                                         # .. the last 32 bits of a small value
+JOINED_SEED, JOINED = 4754, 300         # the joins that are stored, and run by crate cases
 
 
 @dataclass
@@ -76,6 +80,15 @@ def random_tables(draw):
     return tables
 
 
+def joined_tables(draw):
+    """Two or three tables of few values."""
+    tables, few = [], draw.one_of([SMALL, SMALL, SHARING])
+    for _ in range(draw.between(2, 3)):
+        columns, rows = draw.between(1, 3), 0 if draw.chance(3) else draw.between(2, 7)
+        tables.append((columns, [[random_value(draw, few) for _ in range(columns)] for _ in range(rows)]))
+    return tables
+
+
 def repeat_column(draw, columns, rows):
     """Has one column take one value or two in most rows."""
     column = draw.below(columns)
@@ -111,6 +124,10 @@ class QuestionMaker:
             parent = parents[-1] if self.draw.chance(50) else self.draw.one_of(parents)
             self.blocks.append(fmt.BlockText(parent))
             self.levels.append(self.levels[parent] + 1)
+        return self.fill()
+
+    def fill(self):
+        """The blocks filled with records."""
         for number in range(len(self.blocks)):
             self.relation_rows(number)
         for number in reversed(range(len(self.blocks))):
@@ -133,7 +150,7 @@ class QuestionMaker:
     def relation_rows(self, number):
         self.variables.append([])
         block, leaf = self.blocks[number], not self.children(number)
-        for _ in range(self.draw.one_of(TOP_ROWS[leaf] if number == 0 else BELOW_ROWS[leaf])):
+        for _ in range(self.row_count(number, leaf)):
             table = self.draw.below(len(self.tables))
             empty = self.draw.chance(8)
             block.relation_rows.append((table, [
@@ -141,6 +158,9 @@ class QuestionMaker:
         if leaf and not self.variables[number]:
             entries = block.relation_rows[-1][1]
             entries[self.draw.below(len(entries))] = self.new_variable(number)
+
+    def row_count(self, number, leaf):
+        return self.draw.one_of(TOP_ROWS[leaf] if number == 0 else BELOW_ROWS[leaf])
 
     def entry(self, number):
         above = self.above(number)
@@ -202,15 +222,68 @@ class QuestionMaker:
         return fmt.CONSTANT, 10**15 if self.draw.chance(3) else random_value(self.draw)
 
 
+class JoinMaker(QuestionMaker):
+    """A question of one to three blocks, each below the one before, whose relation rows are joined by conditions: most
+    entries are variables that stand in one place."""
+
+    def make(self):
+        for parent in range(self.draw.one_of([0, 0, 0, 1, 1, 2])):
+            self.blocks.append(fmt.BlockText(parent))
+            self.levels.append(parent + 2)
+        return self.fill()
+
+    def row_count(self, number, leaf):
+        return self.draw.one_of([1, 2, 2, 3, 3, 3] if number == 0 else [1, 1, 2, 2, 3])
+
+    def entry(self, number):
+        own, above, choice = self.variables[number], self.above(number), self.draw.below(100)
+        if choice < 10:
+            return fmt.EMPTY, 0
+        if choice < 15:
+            return fmt.CONSTANT, random_value(self.draw)
+        if above and choice < 35:
+            return fmt.FIXED, self.draw.one_of(above)
+        if own and (len(own) >= 5 or choice >= 88):
+            return fmt.VARIABLE, self.draw.one_of(own)
+        return self.new_variable(number)
+
+    def conditions(self, number):
+        """Mostly equalities, either way round, and some with an aggregate."""
+        several = len(self.blocks[number].relation_rows) > 1
+        for _ in range(self.draw.one_of([1, 1, 2, 2, 2, 3, 4] if several else [0, 0, 1])):
+            sides, named = self.sides(number), self.aggregate(number) if self.draw.chance(30) else None
+            operator = 0 if self.draw.chance(60) else self.draw.below(6)
+            self.blocks[number].conditions.append((operator, *self.draw.shuffled([named or sides[0], sides[1]])))
+
+    def sides(self, number):
+        """A variable, and mostly one of another relation row, else any, a fixed variable or a constant."""
+        rows = [[entry for entry in entries if entry[0] == fmt.VARIABLE]
+                for _, entries in self.blocks[number].relation_rows]
+        rows = self.draw.shuffled(row for row in rows if row)
+        if len(rows) > 1 and self.draw.chance(70):
+            return [self.draw.one_of(row) for row in rows[:2]]
+        return [self.draw.one_of(rows[0]) if rows else self.plain(number), self.plain(number)]
+
+    def plain(self, number):
+        if self.draw.chance(8):
+            return fmt.CONSTANT, self.draw.one_of(FAR)
+        return super().plain(number)
+
+
 def random_draft(draw):
     """A question accepted as far as 11, with an admitted plan and at most MOST_TRIALS by file; mostly of some rows."""
     if draw.chance(20):
         return followed_draft(draw)
     if draw.chance(12):
         return stacked_draft(draw)
+    return made_draft(draw, random_tables, QuestionMaker)
+
+
+def made_draft(draw, make_tables, maker):
+    """Such a question by this maker, over tables made so."""
     while True:
-        tables = random_tables(draw)
-        draft = Draft(tables, QuestionMaker(draw, tables).make())
+        tables = make_tables(draw)
+        draft = Draft(tables, maker(draw, tables).make())
         try:
             Trials(draft.matching(), [Path(0, 0)] * len(draft.blocks), MOST_TRIALS).count()
         except Spent:
@@ -309,6 +382,34 @@ def stacked_draft(draw):
     return draft
 
 
+def joined_draft(draw):
+    """Relation rows joined by conditions, with an admitted plan, accepted as far as 11; some crowded."""
+    return crowded_join(draw) if draw.chance(10) else made_draft(draw, joined_tables, JoinMaker)
+
+
+def crowded_join(draw):
+    """Sets about 256 rows over runs most of which a condition refuses: of block 0, or of a child that perhaps no match
+    wants."""
+    var, constant = (lambda n: (fmt.VARIABLE, n)), (lambda: (fmt.CONSTANT, draw.below(3)))
+    tables = [(2, [[draw.below(3), draw.below(3)] for _ in range(draw.between(2, 4))]),      # runs and tanks
+              (2, [[pan, draw.between(14, 18)] for pan in range(draw.between(16, 18))]),     # pans and limits
+              (1, [[shelf] for shelf in range(draw.between(16, 17))])]
+    pairs = [(1, [var(2), var(3)]), (2, [var(4)])]
+    large = fmt.BlockText(fmt.NO_PARENT, pairs, [(draw.one_of([2, 3]), var(4), var(3))], [var(2), var(4)])
+    large.conditions += [(0, var(1), constant())] * draw.chance(80)
+    if draw.chance(40):
+        large.relation_rows = draw.shuffled([(0, [var(0), var(1)]), *pairs])
+        blocks = [large]
+    else:
+        large.parent, large.relation_rows = 0, [(0, [(fmt.FIXED, 5), var(1)]), *pairs]
+        blocks = [fmt.BlockText(fmt.NO_PARENT, [(0, [var(5), var(6)]), (0, [var(7), (fmt.EMPTY, 0)])],
+                                [(draw.below(6), var(6), draw.one_of([var(7), constant()]))],
+                                [var(5), fmt.aggregate(0, 1)]), large]
+    draft = Draft(tables, blocks)
+    draft.paths = [draw.one_of(paths) for paths in draft.admitted()]
+    return draft
+
+
 def trials_of(draft):
     return Trials(draft.matching(), [Path(*path) for path in draft.paths]).count()
 
@@ -380,6 +481,21 @@ def random_jobs(seed, count):
     return jobs
 
 
+def joined_jobs(seed, count):
+    """`count` jobs of joined relation rows, two of a question, each with a plan of its own and a budget: ample, or
+    from 0 to a little past the count."""
+    draw, jobs = Draw(seed), []
+    while len(jobs) < count:
+        draft = joined_draft(draw)
+        for _ in range(2):
+            draft.paths = [draw.one_of(paths) for paths in draft.admitted()]
+            trials = trials_of(draft)
+            draft.budget = draw.one_of([fmt.LISTING_BUDGET, fmt.LISTING_BUDGET, trials, max(trials - 1, 0), trials + 1,
+                                        draw.below(2), *(draw.below(trials + 3) for _ in range(3))])
+            jobs.append(draft.job())
+    return jobs[:count]
+
+
 def random_index_calls(seed, count):
     """`count` calls of the index: most given, some refused by 3, 4, 7 or 2."""
     draw, calls = Draw(seed), []
@@ -400,12 +516,14 @@ def main(arguments):
     out = sys.stdout.buffer
     if len(arguments) == 3 and arguments[0] == "jobs":
         out.write(fmt.stream_bytes(random_jobs(int(arguments[1]), int(arguments[2]))))
+    elif len(arguments) == 3 and arguments[0] == "joined":
+        out.write(fmt.stream_bytes(joined_jobs(int(arguments[1]), int(arguments[2]))))
     elif len(arguments) == 3 and arguments[0] == "indexes":
         out.write(fmt.index_stream_bytes(random_index_calls(int(arguments[1]), int(arguments[2]))))
     elif arguments == ["limits"]:
         out.write(fmt.stream_bytes([job for _, job, _ in limits.limit_jobs()]))
     else:
-        sys.exit("usage: generate.py jobs SEED COUNT | generate.py indexes SEED COUNT | generate.py limits")
+        sys.exit("usage: generate.py jobs|joined|indexes SEED COUNT | generate.py limits")
 
 
 if __name__ == "__main__":

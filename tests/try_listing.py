@@ -2,9 +2,9 @@
 """Tries the built program named listing on fresh jobs: `try_listing.py COUNT SEED`. Not part of the gate.
 
 The stored listing jobs come first, with the text stored for each, then the longest jobs of edges.py, then COUNT random
-jobs of SEED with the evaluator's text. The listing has a budget and buffers of its own: those of a random job are left
-out of account. Needs target/bin/listing (`rt check listing`). Where one differs its bytes go to differs.job in the
-folder for temporary files, and the status is 1.
+jobs of SEED with the evaluator's text, joins alone with `try_listing.py COUNT SEED joined`. The listing has a budget
+and buffers of its own: those of a random job are left out of account. Needs target/bin/listing (`rt check listing`).
+Where one differs its bytes go to differs.job in the folder for temporary files, and the status is 1.
 """
 
 import itertools
@@ -49,9 +49,9 @@ def stored_jobs():
     yield from edges.long_listing_jobs()
 
 
-def random_jobs(count, seed):
+def random_jobs(count, seed, generated):
     """Fresh jobs with the evaluator's text."""
-    for place, job in enumerate(generate.random_jobs(seed, count)):
+    for place, job in enumerate(generated(seed, count)):
         if short_enough(job):
             content = fmt.job_bytes(job)
             yield f"job {place} of seed {seed}", content, evaluator.listing(content)
@@ -66,11 +66,13 @@ def differs(name, job, got, wanted):
 
 
 def main(arguments):
-    if len(arguments) != 2 or not all(word.isdigit() for word in arguments):
-        sys.exit("usage: try_listing.py COUNT SEED")
-    count, seed = map(int, arguments)
+    joined = arguments[2:] == ["joined"]
+    generated, numbers = (generate.joined_jobs, arguments[:2]) if joined else (generate.random_jobs, arguments)
+    if len(numbers) != 2 or not all(word.isdigit() for word in numbers):
+        sys.exit("usage: try_listing.py COUNT SEED | try_listing.py COUNT SEED joined")
+    count, seed = map(int, numbers)
     began, tried, accepted = time.monotonic(), 0, 0
-    for name, job, wanted in itertools.chain(stored_jobs(), random_jobs(count, seed)):
+    for name, job, wanted in itertools.chain(stored_jobs(), random_jobs(count, seed, generated)):
         got = built_listing(job)
         if got != wanted:
             differs(name, job, got, wanted)
