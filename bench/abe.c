@@ -41,6 +41,6 @@ int main(int argc, char **argv)
     if (argc != 2 && argc != 5) return 2;
     load(argv[1]);
     if (argc == 2) { run(); print_rows(); }
-    else TIME("abe", atoi(argv[2]), argv[3], atof(argv[4]), run(), figures[ABE_ROWS], figures[ABE_TRIALS]);
+    else TIME("abe", argv[2], argv[3], atof(argv[4]), run(), figures[ABE_ROWS], figures[ABE_TRIALS]);
     return 0;
 }

@@ -61,6 +61,20 @@ static inline int64_t gcd(int64_t a, int64_t b)
     return a;
 }
 
+/* The workloads, and how many columns the rows of each have. */
+static const struct { const char *name; int columns; } WORK[] = {
+    { "w1", 2 }, { "w2", 3 }, { "w3", 2 }, { "w4", 2 }, { "w5", 2 },
+    { "x1", 2 }, { "x3", 3 }, { "x5", 2 }, { "x7", 3 } };
+enum { WORKS = sizeof WORK / sizeof *WORK };
+
+static inline int work_of(const char *name)
+{
+    int w = 0;
+    while (w < WORKS && strcmp(WORK[w].name, name)) w++;
+    if (w == WORKS) { fprintf(stderr, "no workload %s\n", name); exit(2); }
+    return w;
+}
+
 /* A result row: two whole columns and one ratio, or three wholes; unused are 0/1. */
 typedef struct { int64_t a, b, n, d; } row;
 typedef struct { row r[256]; int len; uint64_t trials; } answer;
@@ -74,15 +88,15 @@ static inline int by_columns(const void *x, const void *y)
     return l < r ? -1 : l > r;
 }
 
-/* Print as the listing does. W1 and W3 have columns a, n/d; W2 has a, b, n. */
-static inline void print_answer(answer *s, int work)
+/* Print as the listing does: columns a, n/d, or a, b, n/d where there are three. */
+static inline void print_answer(answer *s, int columns)
 {
     qsort(s->r, s->len, sizeof(row), by_columns);
-    printf("ok %d %d %llu\n", s->len, work == 2 ? 3 : 2, (unsigned long long)s->trials);
+    printf("ok %d %d %llu\n", s->len, columns, (unsigned long long)s->trials);
     for (int i = 0; i < s->len; i++) {
         row *r = &s->r[i];
         printf("%lld", (long long)r->a);
-        if (work == 2) printf(" %lld", (long long)r->b);
+        if (columns == 3) printf(" %lld", (long long)r->b);
         printf(" %lld", (long long)r->n);
         if (r->d != 1) printf("/%lld", (long long)r->d);
         printf("\n");
@@ -103,6 +117,6 @@ static inline int by_double(const void *x, const void *y)
     do { double t = now_us(); CALL; ts[k++] = now_us() - t; }                 \
     while (k < 100000 && (k < 2 || now_us() - t0 < (seconds) * 1e6));         \
     qsort(ts, k, sizeof *ts, by_double);                                      \
-    printf("%s\tw%d\t%s\t%.3f\t%.3f\t%llu\t%llu\n", engine, work, variant, ts[0], ts[k / 2], \
+    printf("%s\t%s\t%s\t%.3f\t%.3f\t%llu\t%llu\n", engine, work, variant, ts[0], ts[k / 2], \
            (unsigned long long)(ROWS), (unsigned long long)(TRIALS_));        \
 } while (0)

@@ -3,11 +3,12 @@
 
     gen.py [FOLDER]      default: jobs
 
-Each workload has one job per plan (file, index, merging); the tables and the question
-are the same in the three. Everything comes from one fixed generator, so two runs write
-equal bytes. Block 0 is a file scan under every plan: nothing outside it is wanted.
+Each of W1 to W3 has one job per plan (file, index, merging); the tables and the question
+are the same in the three. W4, W5 and X1 to X7 have one job each. Everything comes from
+generators of fixed seeds, so two runs write equal bytes. Block 0 is a file scan under every
+plan: nothing outside it is wanted.
 """
-import os, struct, sys
+import os, random, struct, sys
 
 OUT = sys.argv[1] if len(sys.argv) > 1 else "jobs"
 
@@ -34,20 +35,24 @@ def data(tables):
 
 
 EMPTY = (0, 0)
+def const(k): return (1, k)
 def var(v): return (2, v)
 def fixed(v): return (3, v)
 def agg(f, block, col): return (4, f | block << 8 | col << 16)
 COUNT, SUM, MIN, MAX, AVE = range(5)
+EQ, NE, LT, LE, GT, GE = range(6)
 
 
 def elems(es):
     return b"".join(struct.pack("<Bq", k, a) for k, a in es)
 
 
-def block(parent, rws, ol):
+def block(parent, rws, ol, cds=()):
     b = b"BK" + bytes([parent])
     for table, es in rws:
         b += b"RW" + bytes([table, len(es)]) + elems(es)
+    for op, x, y in cds:
+        b += b"CD" + bytes([op]) + elems([x, y])
     return b + b"OL" + bytes([len(ol)]) + elems(ol)
 
 
@@ -126,7 +131,87 @@ def job_w3():
     write("w3-mixed", d, q, plan((FILE, 0), (INDEX, 1), (MERGING, 2)))
 
 
+def keyed(g, keys):
+    """Rows of a key and a value under 1,000."""
+    return [[k, g.randrange(1000)] for k in keys]
+
+
+def shuffled(g):
+    return g.sample(range(256), 256)
+
+
+def job_w4(g):
+    """Three relation rows that share no variable, joined by conditions."""
+    d = data([(keyed(g, range(256)), 2) for _ in range(3)])
+    q = question(block(255, [(0, [var(0), var(1)]), (1, [var(2), var(3)]), (2, [var(4), var(5)])],
+                       [var(0), var(1)],
+                       [(EQ, var(0), var(2)), (EQ, var(2), var(4)), (LT, var(1), var(5))]))
+    write("w4-file", d, q, plan((FILE, 0)))
+
+
+def job_w5(g):
+    """Four levels of sums, each block a child of the one before."""
+    d = data([([[i] for i in range(16)], 1),
+              ([[i, i % 16] for i in range(64)], 2),
+              ([[i, i % 64] for i in range(128)], 2),
+              ([[i, i % 128, g.randrange(1000)] for i in range(256)], 3)])
+    q = question(block(255, [(0, [var(0)])], [var(0), agg(SUM, 1, 1)]),
+                 block(0, [(1, [var(1), fixed(0)])], [var(1), agg(SUM, 2, 1)]),
+                 block(1, [(2, [var(2), fixed(1)])], [var(2), agg(SUM, 3, 1)]),
+                 block(2, [(3, [var(3), fixed(2), var(4)])], [var(3), var(4)]))
+    write("w5-merging", d, q, plan((FILE, 0), *[(MERGING, 1)] * 3))
+
+
+def job_x1(g):
+    """The second relation row between two that a condition joins, itself joined to nothing."""
+    a = keyed(g, range(256))
+    d = data([(a, 2), ([[i % 16] for i in range(128)], 1), (keyed(g, shuffled(g)), 2)])
+    q = question(block(255, [(0, [var(0), var(1)]), (1, [var(2)]), (2, [var(3), var(4)])],
+                       [var(0), var(4)], [(EQ, var(0), var(3)), (LT, var(1), var(4))]))
+    write("x1-file", d, q, plan((FILE, 0)))
+
+
+def job_x3(g):
+    """Two relation rows joined by a condition, with count and sum of a child block."""
+    a, b = keyed(g, range(256)), keyed(g, shuffled(g))
+    c = [[g.randrange(256), g.randrange(1000)] for _ in range(256)]
+    q = question(block(255, [(0, [var(0), var(1)]), (1, [var(2), var(3)])],
+                       [var(0), agg(COUNT, 1, 0), agg(SUM, 1, 0)],
+                       [(EQ, var(0), var(2)), (LT, var(1), var(3))]),
+                 block(0, [(2, [fixed(0), var(4)])], [var(4)]))
+    write("x3-index", data([(a, 2), (b, 2), (c, 2)]), q, plan((FILE, 0), (INDEX, 0)))
+
+
+def job_x5(g):
+    """Two relation rows joined by a variable of four values, with a condition on the second."""
+    d = data([([[i % 4, i] for i in range(256)], 2), (keyed(g, [i % 4 for i in range(256)]), 2)])
+    q = question(block(255, [(0, [var(0), var(1)]), (1, [var(0), var(2)])],
+                       [var(1), var(0)], [(GT, var(2), const(800))]))
+    write("x5-file", d, q, plan((FILE, 0)))
+
+
+def job_x7(g):
+    """Three relation rows joined by variables, conditions in both blocks and on an aggregate."""
+    a = [[g.randrange(64), i] for i in range(256)]
+    b = [[g.randrange(64), g.randrange(64)] for _ in range(256)]
+    c = [[g.randrange(64), g.randrange(8)] for _ in range(256)]
+    d = [[g.randrange(8), g.randrange(1000)] for _ in range(128)]
+    q = question(block(255, [(0, [var(0), var(1)]), (1, [var(0), var(2)]), (2, [var(2), var(3)])],
+                       [var(3), var(2), agg(AVE, 1, 0)],
+                       [(LT, var(1), const(64)), (NE, var(2), var(3)),
+                        (GT, agg(SUM, 1, 0), const(100))]),
+                 block(0, [(3, [fixed(3), var(4)])], [var(4)], [(GT, var(4), const(10))]))
+    write("x7-merging", data([(t, 2) for t in (a, b, c, d)]), q, plan((FILE, 0), (MERGING, 0)))
+
+
 os.makedirs(OUT, exist_ok=True)
 job_w1(job_j())
 job_w2()
 job_w3()
+g = random.Random(4)
+job_w4(g)
+job_w5(g)
+g = random.Random(7)
+for job, words in (job_x1, 1413), (job_x3, 1629), (job_x5, 1136), (job_x7, 0):
+    job(g)
+    g.getrandbits(32 * words)       # what a question between them drew, which is left out

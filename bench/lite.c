@@ -37,9 +37,11 @@ static void fill(void)
 static void ask(sqlite3_stmt *q, int work, int form)
 {
     A.len = 0;
-    while (sqlite3_step(q) == SQLITE_ROW)
-        A.r[A.len++] = row_of(work, form, sqlite3_column_int64(q, 0), sqlite3_column_int64(q, 1),
-                              sqlite3_column_count(q) > 2 ? sqlite3_column_int64(q, 2) : 0);
+    while (sqlite3_step(q) == SQLITE_ROW) {
+        int64_t v[4];
+        for (int c = 0; c < sqlite3_column_count(q); c++) v[c] = sqlite3_column_int64(q, c);
+        A.r[A.len++] = row_of(work, form, v);
+    }
     sqlite3_reset(q);
 }
 
@@ -47,19 +49,19 @@ int main(int argc, char **argv)
 {
     if (argc < 4) return 2;
     load(argv[1]);
-    int work = atoi(argv[2]), v = 0;
-    while (v < 5 && strcmp(VARIANT[v].name, argv[3])) v++;
-    if (v == 5) return 2;
-    const char *text = SQL[work - 1][VARIANT[v].form];
+    int work = work_of(argv[2]), v = 0;
+    while (v < VARIANTS && strcmp(VARIANT[v].name, argv[3])) v++;
+    if (v == VARIANTS) return 2;
+    const char *text = SQL[work][VARIANT[v].form];
     if (!text) return 3;
     sqlite3_open(":memory:", &db);
     fill();
     sql(VARIANT[v].freely ? "PRAGMA automatic_index=ON" : "PRAGMA automatic_index=OFF");
-    if (VARIANT[v].index) sql(INDEX_SQL[work - 1]);
+    if (VARIANT[v].index) sql(INDEX_SQL[work]);
     sql("ANALYZE");
     sqlite3_stmt *q;
     if (sqlite3_prepare_v2(db, text, -1, &q, 0)) { fprintf(stderr, "%s\n", sqlite3_errmsg(db)); return 1; }
-    if (argc == 4) { ask(q, work, VARIANT[v].form); print_answer(&A, work); }
-    else TIME("sqlite", work, VARIANT[v].name, atof(argv[4]), ask(q, work, VARIANT[v].form), A.len, 0);
+    if (argc == 4) { ask(q, work, VARIANT[v].form); print_answer(&A, WORK[work].columns); }
+    else TIME("sqlite", WORK[work].name, VARIANT[v].name, atof(argv[4]), ask(q, work, VARIANT[v].form), A.len, 0);
     return 0;
 }

@@ -1,5 +1,6 @@
 #!/usr/bin/env bash
-# Build, check, count and time every engine on W1, W2 and W3; print one table.
+# Build, check, count and time every engine on every workload; print one table.
+# The workloads and their plans are those of expected/.
 #
 #   ./run.sh [ROUNDS] [SECONDS]     default 5 rounds of 0.1 s per figure
 #   ./run.sh profile JOB..          where abe_run's instructions go, as in: profile w1-file w2-index
@@ -44,25 +45,30 @@ $CC -o "$BIN/lite" lite.c -lsqlite3
 rustc -O --edition 2021 -o "$BIN/naive" naive.rs
 
 each() {      # call $1 ENGINE WORK VARIANT PLAN COMMAND.. for every figure; PLAN: whose answer it must give
-    local w v
-    for w in 1 2 3; do
-        for v in file index merging; do $1 abe $w $v $v "$BIN/abe" "$TMP/jobs/w$w-$v.job"; done
-        [ $w != 3 ] || $1 abe 3 mixed mixed "$BIN/abe" "$TMP/jobs/w3-mixed.job"
-        for v in counted file; do $1 limit $w $v file "$BIN/limit" "$TMP/jobs/w$w-file.job" $w $v; done
-        for v in index merging; do $1 limit $w $v $v "$BIN/limit" "$TMP/jobs/w$w-file.job" $w $v; done
-        for v in hoist linear hash; do $1 naive $w $v file "$BIN/naive" "$TMP/jobs/w$w-file.job" $v; done
-        for v in scan scan2 free index group; do
-            [ $w$v = 2scan2 ] || $1 sqlite $w $v file "$BIN/lite" "$TMP/jobs/w$w-file.job" $w $v
-        done
+    local f w p v job last= c sql
+    for f in expected/*.out; do
+        f=$(basename "$f" .out) w=${f%-*} p=${f#*-} job=$TMP/jobs/$f.job c=$p sql="scan free index group both"
+        $1 abe $w $p $p "$BIN/abe" "$job"
+        [ $p != mixed ] || continue                     # the engine's alone
+        if [ $p = file ]; then
+            c="counted file"
+            [[ $w = w[123] ]] || c+=" first"
+            for v in hoist linear hash; do $1 naive $w $v file "$BIN/naive" "$job" $v; done
+        fi
+        for v in $c; do $1 limit $w $v $p "$BIN/limit" "$job" $w $v; done
+        [ $w != "$last" ] || continue                   # SQLite has no plans: once for each question
+        last=$w
+        [[ $w != w[13] ]] || sql+=" scan2"
+        for v in $sql; do $1 sqlite $w $v $p "$BIN/lite" "$job" $w $v; done
     done
 }
 
 # Every engine gives the stored rows, and every engine but SQLite the stored trials too.
 check() {
-    local e=$1 w=$2 v=$3 p=$4 o=$TMP/out/$1-w$2-$3; shift 4
+    local e=$1 w=$2 v=$3 p=$4 o=$TMP/out/$1-$2-$3; shift 4
     "$@" >"$o" || true
-    if [ $e = sqlite ]; then cmp <(tail -n +2 "$o") <(tail -n +2 expected/w$w-$p.out)
-    else cmp "$o" expected/w$w-$p.out; fi || { echo "DIFFERS: $e w$w $v"; exit 1; }
+    if [ $e = sqlite ]; then cmp <(tail -n +2 "$o") <(tail -n +2 expected/$w-$p.out)
+    else cmp "$o" expected/$w-$p.out; fi || { echo "DIFFERS: $e $w $v"; exit 1; }
 }
 for p in file:20 index:10 merging:8; do
     [ "$("$BIN/abe" "$TMP/jobs/j-${p%:*}.job")" = "ok 3 2 ${p#*:}"$'\n1 1823/2\n2 905\n3 0' ] || { echo "J differs: $p"; exit 1; }
@@ -73,8 +79,8 @@ echo "all engines give the same rows and trials"
 count() {
     local e=$1 w=$2 v=$3; shift 4
     case $e in
-        abe) echo "abe w$w $v $(callgrind abe_run "$@")";;
-        limit) echo "limit w$w $v $(callgrind w${w}_$v "$@")";;
+        abe) echo "abe $w $v $(callgrind abe_run "$@")";;
+        limit) echo "limit $w $v $(callgrind ${w}_$v "$@")";;
     esac
 }
 each count >"$TMP/counts"

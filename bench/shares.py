@@ -42,8 +42,8 @@ for line in out.splitlines():
 print("%s: %d instructions" % (name, total))
 for f in sorted(own, key=own.get, reverse=True)[:8]:
     print("  %5.1f%%  %s" % (100 * own[f] / total, f))
-matches = sum(n for _, n in calls.get("evaluation::at_match", {}).values())
-print("  matches (calls of evaluation::at_match): %d, %.0f instructions for each" % (matches, total / max(matches, 1)))
+matches = sum(n for _, n in calls.get("evaluation::cycle::at_match", {}).values())
+print("  matches (calls of evaluation::cycle::at_match): %d, %.0f instructions for each" % (matches, total / max(matches, 1)))
 for f in ("memcpy", "memset"):
     top = sorted(calls.get(f, {}).items(), key=lambda x: -x[1][0])[:4]
     print("  %s called by: %s" % (f, "; ".join("%s, %d times, %.1f%%" % (g, n, 100 * c / total) for g, (c, n) in top)))

@@ -1,10 +1,11 @@
 #!/usr/bin/env python3
 """The table of run.sh: table.py TIMES COUNTS.
 
-A time is the least over all rounds. File plans are in ns per trial, index and merging in
+A time is the least over all rounds. File plans of W1 to W3 are in ns per trial, all others in
 microseconds per question. C is limit.c on the same plan: for file plans the loop that counts
-each trial, and beside it (`C once`) the one that counts once per scan. Rust is naive.rs, file
-scans only: `hoist`, and the better of the two plain ones. SQLite on the same path is `scan` for
+each trial it makes, and beside it the one that counts once per scan (`C once`) and, for W4, X1 and
+X5, the one that also leaves a scan where the rows found so far decide (`C first`). Rust is naive.rs,
+file scans only: `hoist`, and the better of the two plain ones. SQLite on the same path is `scan` for
 file, the better of `free` and `index` for index, `group` for merging; its best is the best of
 all its forms for that question. `Ir` are instructions of one call, by callgrind. `spread` is the
 engine's worst round by its best: well over 1, the machine was busy.
@@ -14,22 +15,23 @@ Targets: C3, at most 3 times C on the same plan; 1.5, under 1.5 ns per trial (fi
 is the engine's alone), where `S20 path` holds it against SQLite on the
 same path and `S20 best` against its best form.
 """
-import collections, sys
+import collections, os, sys
 
 EXPECTED = {}
-for w in ("w1", "w2", "w3"):
-    for p in ("file", "index", "merging") + (("mixed",) if w == "w3" else ()):
-        with open("expected/%s-%s.out" % (w, p)) as f:
-            _, rows, _, trials = f.readline().split()
-            EXPECTED[w, p] = int(rows), int(trials)
+for name in sorted(os.listdir("expected")):
+    with open("expected/" + name) as f:
+        _, rows, _, trials = f.readline().split()
+        EXPECTED[tuple(name.removesuffix(".out").split("-"))] = int(rows), int(trials)
+ROWS = {w: rows for (w, _), (rows, _) in EXPECTED.items()}      # the same under every plan
 
 times = collections.defaultdict(list)
 for line in open(sys.argv[1]):
     _, engine, w, variant, least, _, rows, trials = line.split()
-    plan = variant if engine in ("abe", "limit") and variant != "counted" else "file"
-    want, got = EXPECTED[w, plan], (int(rows), int(trials))
     if engine == "sqlite":
-        want, got = want[0], got[0]
+        want, got = ROWS[w], int(rows)
+    else:
+        plan = variant if (w, variant) in EXPECTED else "file"
+        want, got = EXPECTED[w, plan], (int(rows), int(trials))
     if got != want:
         sys.exit("DIFFERS when timed: %s %s %s: %s, not %s" % (engine, w, variant, got, want))
     times[w, engine, variant].append(float(least))
@@ -41,8 +43,8 @@ for line in open(sys.argv[2]):
     counts[w, engine, variant] = int(n)
 
 SAME_PATH = {"file": ["scan"], "index": ["free", "index"], "merging": ["group"]}
-HEAD = ["", "plan", "trials", "rows", "unit", "engine", "C", "engine/C", "C once", "Rust hoist", "Rust plain",
-        "SQLite path", "/engine", "SQLite best", "/engine", "engine Ir", "C Ir", "Ir/Ir", "spread", "missed"]
+HEAD = ["", "plan", "trials", "rows", "unit", "engine", "C", "engine/C", "C once", "C first", "engine/first",
+        "Rust hoist", "Rust plain", "SQLite path", "/engine", "SQLite best", "/engine", "engine Ir", "C Ir", "Ir/Ir", "spread", "missed"]
 
 
 def line_of(w, p):
@@ -50,14 +52,15 @@ def line_of(w, p):
     if p == "mixed":        # no other engine has it
         e = least[w, "abe", p]
         spread = "%.2f" % (max(times[w, "abe", p]) / e)
-        return [w.upper(), p, str(trials), str(rows), "us", "%.1f" % e] + [""] * 9 + [str(counts[w, "abe", p]), "", "", spread, ""]
+        return [w.upper(), p, str(trials), str(rows), "us", "%.1f" % e] + [""] * 11 + [str(counts[w, "abe", p]), "", "", spread, ""]
     file = p == "file"
+    by_trial = file and w in ("w1", "w2", "w3")
 
     def us(engine, *variants):
         return min(least[w, engine, v] for v in variants)
 
     def shown(t):
-        return "%.2f" % (t * 1e3 / trials) if file else "%.1f" % t
+        return "%.2f" % (t * 1e3 / trials) if by_trial else "%.1f" % t
 
     c_name = "counted" if file else p
     e, c = us("abe", p), us("limit", c_name)
@@ -66,9 +69,11 @@ def line_of(w, p):
     missed = [name for name, failed in (("C3", e > 3 * c), ("1.5", file and e * 1e3 / trials >= 1.5),
                                         ("S20 path", not file and path < 20 * e),
                                         ("S20 best", not file and best < 20 * e)) if failed]
-    peers = [us("limit", "file"), us("naive", "hoist"), us("naive", "linear", "hash")] if file else []
-    return [w.upper(), p, str(trials), str(rows), "ns/trial" if file else "us", shown(e), shown(c), "%.1f" % (e / c),
-            *([shown(t) for t in peers] or [""] * 3), shown(path), "%.1f" % (path / e), "%.0f us" % best,
+    once = [shown(us("limit", "file"))] if file else [""]
+    first = [shown(us("limit", "first")), "%.1f" % (e / us("limit", "first"))] if (w, "limit", "first") in least else [""] * 2
+    rust = [shown(us("naive", "hoist")), shown(us("naive", "linear", "hash"))] if file else [""] * 2
+    return [w.upper(), p, str(trials), str(rows), "ns/trial" if by_trial else "us", shown(e), shown(c), "%.1f" % (e / c),
+            *once, *first, *rust, shown(path), "%.1f" % (path / e), "%.0f us" % best,
             "%.1f" % (best / e), str(ir), str(cir), "%.1f" % (ir / cir), "%.2f" % (max(times[w, "abe", p]) / e),
             ", ".join(missed) or "none"]
 
@@ -76,5 +81,5 @@ def line_of(w, p):
 body = [line_of(w, p) for w, p in EXPECTED]
 wide = [max(len(r[i]) for r in [HEAD] + body) for i in range(len(HEAD))]
 for r in [HEAD, ["-" * n for n in wide]] + body:
-    print("| " + " | ".join(x.ljust(n) if i in (0, 1, 4, 19) else x.rjust(n)
+    print("| " + " | ".join(x.ljust(n) if i in (0, 1, 4, len(HEAD) - 1) else x.rjust(n)
                             for i, (x, n) in enumerate(zip(r, wide))) + " |")
