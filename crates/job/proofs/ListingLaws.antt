@@ -1,14 +1,12 @@
--- What the program prints is the listing: the text over the result's words, whatever the result held before.
---   answer-told         for any buffers, data, question, plan and budget: the model's text of the answer
---   listing-told        for the bytes of a job; listing-bad: for other bytes
+-- The text over the result's words is the model's text of the answer, whatever the result held before.
+--   answer-told         for any buffers, data, question, plan and budget
 use Prim.Native.Nat.{ℕ}
 use mathlib.Core.List.{List}
-use mathlib.Core.Option.{none, some}
-use mathlib.Core.Path.{_≡_, refl, sym, _∙_, ap, subst}
+use mathlib.Core.Path.{_≡_, sym, _∙_, ap, subst}
 use lib.IntN.{ℤ}
 use lib.ListN.{length}
 use Rattle.model.specs.Answer.{answerOf, writtenOf, resultAfter}
-use Rattle.model.specs.Listing.{Job, jobOf, wordsOf, answerText, badJob, listingBudget, longEnough, jobText, listingOf}
+use Rattle.model.specs.Listing.{answerText}
 use Rattle.model.specs.Lists.{All, overwrite}
 use Rattle.model.specs.Matching.{result}
 use Rattle.model.specs.Records.{questionOf}
@@ -37,17 +35,3 @@ module _ (l : Lengths) (d : List ℤ) (qs ps : List ℕ) (budget : ℕ) (words :
           ∙ text-written a rs words (r .rows)
           (subst (λ (n : ℕ). All (λ r. length r ≡ n) rs) (sym (r .columns)) (result-columns d (questionOf qs)))
       go (refuses n w) = text-refused a (overwrite (writtenOf l d qs ps budget) words) rs n
-
-module _ (bs : List ℕ) where
-  pub listing-told : (j : Job) (words : List ℤ) → jobOf bs ≡ some j
-      → listingOf bs
-      ≡ text (answerOf longEnough (wordsOf (j .«data»)) (j .question) (j .plan) listingBudget)
-      (resultAfter longEnough (wordsOf (j .«data»)) (j .question) (j .plan) listingBudget words)
-  unfolding listingOf jobText
-  listing-told j words e =
-      rw (e, listingOf)
-      (sym (answer-told longEnough (wordsOf (j .«data»)) (j .question) (j .plan) listingBudget words))
-
-  pub listing-bad : jobOf bs ≡ none → listingOf bs ≡ badJob
-  unfolding listingOf
-  listing-bad e = rw (e, listingOf) refl

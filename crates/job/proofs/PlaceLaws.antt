@@ -1,7 +1,7 @@
--- The parts by place, as the code's tests and calls tell of them.
+-- The parts by place, as the code's tests and calls tell of them. `data-short`: the data of a job have at most 65,536 bytes.
 use Prim.Native.Nat.{ℕ, _+_, _-_, _≤_, zero-le}
 use native.Mathlib.Omega.{arith}
-use mathlib.Core.Bool.{Bool, true, false, _&&_}
+use mathlib.Core.Bool.{Bool, true, false, _&&_, cond}
 use mathlib.Core.List.{List}
 use mathlib.Core.Path.{_≡_, refl, sym, _∙_, ap, subst}
 use borrow.Author.Tests.{leb-true}
@@ -75,3 +75,28 @@ module _ (bs : List ℕ) (d q p : Part) (da : d ≡ partAt bs 0 68 65) (qu : q �
   joined-is =
       ap (λ (x : Part). joined x q p (length bs)) da ∙ ap (λ (x : Part). joined d₀ x p (length bs)) q-is
       ∙ ap (λ (x : Part). joined d₀ q₀ x (length bs)) p-is
+
+-- ---- the data of a job
+part-short : (bs : List ℕ) (i x y : ℕ) → partAt bs i x y .size ≤ 65536
+part-short bs i x y = go (stands bs i x y) refl
+  where
+    go : (t : Bool) → stands bs i x y ≡ t → partAt bs i x y .size ≤ 65536
+    go true e =
+        subst (λ (p : Part). p .size ≤ 65536) (sym (part-there bs i x y e))
+        (leb-true (four bs (i + 2)) 65536
+        (and-last (eqb (getD bs i 0) x && eqb (getD bs (i + 1) 0) y) (leb (four bs (i + 2)) 65536)
+        (and-first (eqb (getD bs i 0) x && eqb (getD bs (i + 1) 0) y && leb (four bs (i + 2)) 65536)
+        (leb (four bs (i + 2) + 6) (length bs - i)) e)))
+    go false e = subst (λ (p : Part). p .size ≤ 65536) (sym (part-absent bs i x y e)) zero-le
+
+pub data-short : (bs : List ℕ) → partsOf bs .«data_length» ≤ 65536
+unfolding partsOf joined
+data-short bs =
+    let d = partAt bs 0 68 65 in
+    let q = partAt bs (d .at + d .size) 81 85 in
+    let p = partAt bs (q .at + q .size) 80 78 in
+    go (whole d q p (length bs)) d q p (part-short bs 0 68 65)
+  where
+    go : (t : Bool) (d q p : Part) → d .size ≤ 65536 → cond t (laid d q p) noParts .«data_length» ≤ 65536
+    go true d q p h = h
+    go false d q p h = zero-le

@@ -1,0 +1,2 @@
+-- The laws of a reply.
+pub mod ReplyLaws

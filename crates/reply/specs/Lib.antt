@@ -1,0 +1,2 @@
+-- The text for the bytes of a job.
+pub mod Reply
