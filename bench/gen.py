@@ -10,6 +10,9 @@ plan: nothing outside it is wanted.
 """
 import os, random, struct, sys
 
+if sys.argv[1:2] in (["-h"], ["--help"]):
+    sys.exit(print(__doc__.strip()))
+
 OUT = sys.argv[1] if len(sys.argv) > 1 else "jobs"
 
 

@@ -9,6 +9,7 @@
 # ARCHIVE=path/to/libcapi.a takes an engine already built. Writes only in target/ (by rt)
 # and in a temporary folder, which is removed at the end.
 set -euo pipefail
+case ${1-} in -h | --help) sed -n '2,/^[^#]/s/^# \{0,1\}//p' "$0"; exit ;; esac
 cd "$(dirname "$0")"
 TMP=$(mktemp -d)
 trap 'rm -rf "$TMP"' EXIT

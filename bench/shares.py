@@ -6,6 +6,9 @@ functions that it put into their callers have no line. Then the matches
 of all blocks, and who calls memcpy and memset, how often."""
 import re, subprocess, sys
 
+if sys.argv[1:2] in (["-h"], ["--help"]):
+    sys.exit(print(__doc__.strip()))
+
 name, total, path = sys.argv[1], int(sys.argv[2]), sys.argv[3]
 LINE = re.compile(r"\s*([\d,]+) \([^)]*\)\s+([*<]?)\s*(.*?)(?: \(([\d,]+)x\))?(?: \[[^\]]*\]?)?$")
 

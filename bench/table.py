@@ -17,6 +17,9 @@ same path and `S20 best` against its best form.
 """
 import collections, os, sys
 
+if sys.argv[1:2] in (["-h"], ["--help"]):
+    sys.exit(print(__doc__.strip()))
+
 EXPECTED = {}
 for name in sorted(os.listdir("expected")):
     with open("expected/" + name) as f:

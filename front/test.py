@@ -24,6 +24,7 @@ from naive.matching import Matching                                     # noqa: 
 from naive.tables import laid_out, tables_of                            # noqa: E402
 from printing import decimal_of                                         # noqa: E402
 from question import Question                                           # noqa: E402
+from usage import help_first                                            # noqa: E402
 
 FAILED = []
 
@@ -303,4 +304,5 @@ def main():
 
 
 if __name__ == "__main__":
+    help_first(__doc__)
     sys.exit(main())

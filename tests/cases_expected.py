@@ -10,6 +10,7 @@ from pathlib import Path
 
 import evaluator
 import format as fmt
+from usage import help_first
 
 STDIN = Path(__file__).resolve().parent.parent / "crates" / "cases" / "stdin"
 MOST_WORDS, LONGEST_PART = 16_385, 65_536
@@ -29,5 +30,6 @@ def answers():
 
 
 if __name__ == "__main__":
+    help_first(__doc__)
     for text in answers():
         print(text, end="")

@@ -27,6 +27,7 @@ from naive.tables import tables_of
 from naive.trials import Spent, Trials
 from reader_expected import number_of
 from reader_jobs import faulty_job, planned_job, question_jobs
+from usage import help_first
 
 STDIN = Path(__file__).resolve().parent.parent / "crates" / "cases" / "stdin"
 SEED = 475_001
@@ -220,4 +221,5 @@ def main(arguments):
 
 
 if __name__ == "__main__":
+    help_first(__doc__)
     main(sys.argv[1:])

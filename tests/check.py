@@ -22,6 +22,7 @@ from naive.question import read_question
 from naive.tables import tables_of
 from naive.trials import Trials
 from sql import Sql, TooLong
+from usage import help_first
 
 HERE = FilePath(__file__).resolve().parent
 QUESTIONS = HERE / "questions"
@@ -307,4 +308,5 @@ def main(arguments):
 
 
 if __name__ == "__main__":
+    help_first(__doc__)
     main(sys.argv[1:])

@@ -19,6 +19,7 @@ import tempfile
 import evaluator
 import format as streams
 import generate
+from usage import help_first
 
 ROOT = pathlib.Path(__file__).resolve().parent.parent
 STORED = ROOT / "tests" / "stored"
@@ -108,4 +109,5 @@ def main(arguments):
 
 
 if __name__ == "__main__":
+    help_first(__doc__)
     main(sys.argv[1:])

@@ -19,6 +19,7 @@ from naive.plan import Path, admitted_paths
 from naive.question import read_question
 from naive.tables import tables_of
 from naive.trials import Spent, Trials
+from usage import help_first
 
 MOST_TRIALS = 4_000         # of a generated question by file
 DEEPEST_LEVEL = 4
@@ -527,4 +528,5 @@ def main(arguments):
 
 
 if __name__ == "__main__":
+    help_first(__doc__)
     main(sys.argv[1:])

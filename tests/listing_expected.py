@@ -5,6 +5,8 @@ crates/listing/stdout` stores them.
 
 import evaluator
 from listing_job import STDIN
+from usage import help_first
 
 if __name__ == "__main__":
+    help_first(__doc__)
     print(evaluator.listing(STDIN.read_bytes()), end="")

@@ -8,6 +8,7 @@ from pathlib import Path
 
 import edges
 import format as fmt
+from usage import help_first
 
 STDIN = Path(__file__).resolve().parent.parent / "crates" / "listing" / "stdin"
 
@@ -22,4 +23,5 @@ def main(arguments):
 
 
 if __name__ == "__main__":
+    help_first(__doc__)
     main(sys.argv[1:])

@@ -37,6 +37,7 @@ from text.lines import NotationError
 from text.names import build
 from text.parser import Parser
 from text.show import NotExpressible, show
+from usage import help_first
 
 __all__ = ["NotationError", "NotExpressible", "compile_text", "show"]
 
@@ -69,4 +70,5 @@ def main(arguments):
 
 
 if __name__ == "__main__":
+    help_first(__doc__)
     main(sys.argv[1:])

@@ -11,6 +11,7 @@ from pathlib import Path
 import evaluator
 import format as fmt
 import limits
+from usage import help_first
 
 STDIN = Path(__file__).resolve().parent.parent / "crates" / "reader_test" / "stdin"
 MOST_WORDS, MOST_QUESTION, MOST_PLAN = 1_024, 4_096, 64
@@ -57,5 +58,6 @@ def lines():
 
 
 if __name__ == "__main__":
+    help_first(__doc__)
     for line in lines():
         print(line)

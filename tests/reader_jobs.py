@@ -16,6 +16,7 @@ import generate
 import limits
 import notation
 from draw import Draw
+from usage import help_first
 
 HERE = Path(__file__).resolve().parent
 STDIN = HERE.parent / "crates" / "reader_test" / "stdin"
@@ -79,4 +80,5 @@ def main(arguments):
 
 
 if __name__ == "__main__":
+    help_first(__doc__)
     main(sys.argv[1:])

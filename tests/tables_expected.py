@@ -9,6 +9,7 @@ evaluator's, the ranges are counted.
 
 import evaluator
 from naive.tables import directory, laid_out, tables_of, values_in_range
+from usage import help_first
 
 MOST = 2 ** 31 - 1
 ROWS = [(3, 8, 5), (-1, 8, 5), (3, 8, -5), (0, 8, 5), (-1, 8, -5), (3, 8, 1_000_000)]
@@ -143,8 +144,10 @@ def ranges():
         ranged(f"range of {wanted} in 256 rows", values, wanted)
 
 
-limits()
-words()
-readers()
-indexes()
-ranges()
+if __name__ == "__main__":
+    help_first(__doc__)
+    limits()
+    words()
+    readers()
+    indexes()
+    ranges()

@@ -24,6 +24,7 @@ from naive.question import read_question
 from naive.tables import tables_of
 from naive.trials import Spent, Trials
 from reader_expected import number_of
+from usage import help_first
 
 STORED = Path(__file__).resolve().parent / "stored" / "listing"
 BETWEEN = 200               # jobs from one line of progress to the next
@@ -83,4 +84,5 @@ def main(arguments):
 
 
 if __name__ == "__main__":
+    help_first(__doc__)
     main(sys.argv[1:])

@@ -6,6 +6,7 @@ Prints the whole expected output; `python3 tests/value_expected.py > crates/valu
 from bisect import bisect_left, insort
 from fractions import Fraction
 from math import gcd
+from usage import help_first
 
 BOUND, ROWS = 10**15, 256          # numerators inside the bounds; rows of a set and greatest denominator
 END = 16_777_216_000_000           # the greatest numerator of a result
@@ -183,6 +184,7 @@ def drawn():
 
 
 if __name__ == "__main__":
+    help_first(__doc__)
     for part in (orders(), averages(), divisors(), ends(), drawn()):
         for line in part:
             print(line)

@@ -12,6 +12,7 @@ import sys
 import tempfile
 from concurrent.futures import ThreadPoolExecutor
 from pathlib import Path
+from usage import help_first
 
 HERE = Path(__file__).resolve().parent
 
@@ -198,4 +199,5 @@ def main(names):
 
 
 if __name__ == "__main__":
+    help_first(__doc__)
     main(sys.argv[1:])
