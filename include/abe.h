@@ -1,5 +1,5 @@
 /* The query engine for C. The archive that goes with it is built by `rt staticlib capi` (target/staticlib/libcapi.a);
- * `front/run` builds and runs a program over it. "01" is the scope paper: it has the formats of data, question and plan.
+ * `front/run` builds and runs a program over it. `docs/FORMATS.md` has the formats of data, question and plan, byte by byte.
  *
  * Each slice is passed as a pointer and its length in elements (not bytes). A pointer is never null, is aligned for its
  * type and has that many readable elements, also where the length is 0; a buffer that is not const is writable and
@@ -31,6 +31,35 @@ extern "C" {
 #define ABE_PLAN        11  /* plan malformed or not admitted */
 #define ABE_BUDGET      12  /* trials exceed the budget; the figure of trials is the budget */
 #define ABE_LARGE       13  /* an evaluated set has over 256 rows; trials in full */
+
+/* Codes in the bytes of a question and of a plan (docs/FORMATS.md). */
+
+/* Kinds of an element: its first byte; an 8-byte little-endian argument follows. */
+#define ABE_KIND_EMPTY     0  /* argument 0; in RW */
+#define ABE_KIND_CONSTANT  1  /* the number, two's complement; in RW and CD */
+#define ABE_KIND_VARIABLE  2  /* its number, 0 to 15; in RW, CD and OL */
+#define ABE_KIND_FIXED     3  /* the number of a variable of an ancestor, 0 to 15; in RW and CD */
+#define ABE_KIND_AGGREGATE 4  /* argument byte 0 the function, byte 1 the block, byte 2 its output column; in CD and OL */
+
+/* Operators of a condition: the byte after CD. */
+#define ABE_OPERATOR_EQUAL         0
+#define ABE_OPERATOR_NOT_EQUAL     1
+#define ABE_OPERATOR_LESS          2
+#define ABE_OPERATOR_LESS_EQUAL    3
+#define ABE_OPERATOR_GREATER       4
+#define ABE_OPERATOR_GREATER_EQUAL 5
+
+/* Functions of an aggregate. */
+#define ABE_FUNCTION_COUNT 0  /* its column is 0 */
+#define ABE_FUNCTION_SUM   1
+#define ABE_FUNCTION_MIN   2
+#define ABE_FUNCTION_MAX   3
+#define ABE_FUNCTION_AVE   4
+
+/* Paths of a plan: the byte after PL. */
+#define ABE_PATH_FILE    0  /* its column is 0 */
+#define ABE_PATH_INDEX   1
+#define ABE_PATH_MERGING 2
 
 /* Least lengths of the buffers, in elements. Longer ones will do. */
 #define ABE_SETS_WORDS    8192  /* int64_t: sets under way */
