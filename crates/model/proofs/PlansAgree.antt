@@ -15,8 +15,8 @@ use Rattle.model.specs.Lists.{range}
 use Rattle.model.specs.Matching.{tooLarge}
 use Rattle.model.specs.Outcome.{figuresOf}
 use Rattle.model.specs.Plan.{Path, pathAt, planAdmitted, pathIn, planOf}
-use Rattle.model.specs.PlanAgreement.{Accepted, Admitted, OneRun, BothLargeOrGiven, TwoRuns, Changed}
-use Rattle.model.specs.PlanAgreement.{file-to-index, index-to-merging, OneChanged}
+use Rattle.model.specs.PlanAgreement.{Accepted, Admitted, OneRun, BothLargeOrGiven, PlansAgree, Changed}
+use Rattle.model.specs.PlanAgreement.{file-to-index, index-to-merging, ChangeNeverRaises}
 use Rattle.model.specs.Question.{Block}
 use Rattle.model.specs.Records.{questionOf}
 use Rattle.model.specs.Refusal.{Lengths, firstOf, causes, planCauses, refusal}
@@ -110,8 +110,7 @@ module _ (l : Lengths) (d : List ℤ) (qs ps : List ℕ) (budget : ℕ) (ok : Ac
   unfolding settled
   given-0 e free = numbered (Given _ _ n) (within-budget free ∙ ap (λ t. settled t d q n) e)
 
-pub plans-agree : (l l′ : Lengths) (d : List ℤ) (qs ps ps′ : List ℕ) (budget budget′ : ℕ)
-    → Accepted l d qs → Accepted l′ d qs → Admitted qs ps → Admitted qs ps′ → TwoRuns l l′ d qs ps ps′ budget budget′
+pub plans-agree : PlansAgree
 plans-agree l l′ d qs ps ps′ budget budget′ ok ok′ adm adm′ =
     record {
       one = one-run l d qs ps budget ok adm;
@@ -152,7 +151,7 @@ better-paths f g a zero h k = same
 better-paths f g a (suc n) h zero = h a (omega arith)
 better-paths f g a (suc n) h (suc k) = better-paths f g (suc a) n (λ j l. h j (omega arith)) k
 
-pub change-never-raises : (d : List ℤ) (qs ps ps′ : List ℕ) → OneChanged qs ps ps′ → count d qs ps′ ≤ count d qs ps
+pub change-never-raises : ChangeNeverRaises
 unfolding planOf
 change-never-raises d qs ps ps′ o =
     trials-le d (questionOf qs) (planOf (length (questionOf qs)) ps) (planOf (length (questionOf qs)) ps′)

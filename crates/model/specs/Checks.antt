@@ -1,5 +1,5 @@
 -- The causes 6 to 10 over a question, each as the test that it does NOT apply (01, "Causes of refusal";
--- docs/DECISIONS.md, R14 to R22).
+-- docs/READINGS.md, R14 to R22).
 --   countsFit q          6: blocks, relation rows, conditions, output columns, aggregates of one block
 --   placed q j           the parent of block j is an earlier block (255 for block 0), and its level at most 4
 --   elementThere q j e   element e of block j names a variable from 0 to 15, a child and a column of it

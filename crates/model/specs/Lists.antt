@@ -1,9 +1,9 @@
 -- Lists, as the definitions use them.
 --   In a l             a is a member of l; All P l: P is true of each member
---   all p l, any p l   the test p holds at each, at some member
---   filter p l         the members with p, in order
+--   all p l, any p l   the test p holds at each, at some member (the library's take the list first)
+--   filter p l         the members with p, in order (the library's takes a decision of a statement in place of the test)
 --   sumOver f l        the sum of what f gives
---   range a n          a, a + 1, .., n numbers
+--   range a n          a, a + 1, .., n numbers (the library's range n begins at 0)
 --   concatMap f l      the lists that f gives, one after the other
 --   overwrite front l  l with front in place of as many of its first members
 use Prim.Native.Nat.{ℕ, zero, suc, _+_}

@@ -3,7 +3,7 @@
 --   Row                values, one for each column
 --   lexicographic cmp  the order of lists by their first difference, a shorter list before its continuations
 --   orderRows r r′     rows in order of exact values, first column first
---   insert cmp x s     x added to an ascending list, if it is not there
+--   insert cmp x s     x added to an ascending list at its place, if it is not there; the library's puts it first
 --   canon cmp l        the members of l in ascending order, each once
 --   rowWords r         a row as result words: numerator, denominator for each column
 --   setWords s         the rows of a set as result words, row after row
