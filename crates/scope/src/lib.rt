@@ -175,7 +175,8 @@ fn absent_block() -> syntax::Block
     }
 }
 
-// Block k of the question, one that stands nowhere past the last or past the fifth.
+// Block k of the question, one that stands nowhere past the last or past the fifth. Free are its `end`, and the places of
+// records of which it has none.
 pub fn block_of(q: syntax::Question, block: u8) -> syntax::Block
     ensures { λ r. ⌜ ((bs : List ℕ) → described bs r ≡ blockAt (blocksIn bs q) block) ⌝ }
 {
