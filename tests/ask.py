@@ -11,7 +11,7 @@ mistake in the file, or it cannot be read, in one line.
 
 import sys
 
-from built import built_listing
+from built import printed
 from evaluator import answer_text, listing, listing_text, run_job
 from format import job_bytes
 from notation import compile_file
@@ -29,7 +29,7 @@ def of_job(path):
 WAYS = {
     "": lambda path: listing_text(run_job(compile_file(path))),
     "--figures": lambda path: answer_text(run_job(compile_file(path))),
-    "--listing": lambda path: built_listing(job_bytes(compile_file(path))),
+    "--listing": lambda path: printed("listing", job_bytes(compile_file(path))),
     "--job": of_job,
 }
 

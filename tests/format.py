@@ -10,8 +10,9 @@ little-endian length and that many bytes:
   PN  the plan
   BU  24 bytes: budget (8 bytes), then the lengths in words of the lent buffers: result, sets, files, indexes (4 each)
 
-DA, QU, PN alone are the listing's job. An index stream has two parts a job: DA, and IX of 12 bytes: table, column,
-buffer length in words (4 bytes each). All numbers are little-endian; lengths, tables and columns are unsigned.
+DA, QU, PN alone are the listing's job; the program named budgeted reads these and a part BU of the budget alone. An
+index stream has two parts a job: DA, and IX of 12 bytes: table, column, buffer length in words (4 bytes each). All
+numbers are little-endian; lengths, tables and columns are unsigned.
 """
 
 import struct
@@ -101,6 +102,11 @@ def job_bytes(job):
     """The job as the listing reads it."""
     data = struct.pack(f"<{len(job.data)}i", *job.data)
     return part(b"DA", data) + part(b"QU", job.question) + part(b"PN", job.plan)
+
+
+def budgeted_bytes(job, budget):
+    """The bytes of a job and its budget behind them, as the program named budgeted reads them."""
+    return job + part(b"BU", struct.pack("<Q", budget))
 
 
 def stream_bytes(jobs):

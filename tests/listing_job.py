@@ -1,6 +1,6 @@
 #!/usr/bin/env python3
-"""The job that crate listing reads on standard input: job J (01, "The listing"). `listing_job.py` writes it to standard
-output, `listing_job.py --write` to crates/listing/stdin.
+"""The job that crate listing reads on standard input: the longest, so that a short read shows. `listing_job.py` writes
+it to standard output, `listing_job.py --write` to crates/listing/stdin.
 """
 
 import sys
@@ -11,15 +11,23 @@ import format as fmt
 from usage import help_first
 
 STDIN = Path(__file__).resolve().parent.parent / "crates" / "listing" / "stdin"
+LONGEST_PART = 65_536
+
+
+def longest_job():
+    """Three parts of 65,536 bytes: those of J, each with zeros behind it. Of a byte less it is no job."""
+    data = fmt.job_bytes(edges.J)[6:6 + 4 * len(edges.J.data)]
+    contents = (data, edges.J.question, edges.J.plan)
+    return edges.parts(*(content + bytes(LONGEST_PART - len(content)) for content in contents))
 
 
 def main(arguments):
     if arguments == ["--write"]:
-        STDIN.write_bytes(fmt.job_bytes(edges.J))
+        STDIN.write_bytes(longest_job())
     elif arguments:
         sys.exit("usage: listing_job.py | listing_job.py --write")
     else:
-        sys.stdout.buffer.write(fmt.job_bytes(edges.J))
+        sys.stdout.buffer.write(longest_job())
 
 
 if __name__ == "__main__":

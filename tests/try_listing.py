@@ -1,10 +1,11 @@
 #!/usr/bin/env python3
-"""Tries the built program named listing on fresh jobs: `try_listing.py COUNT SEED`. Not part of the gate.
+"""Tries the built programs named listing and budgeted on fresh jobs: `try_listing.py COUNT SEED`. Not part of the gate.
 
 The stored listing jobs come first, with the text stored for each, then the longest jobs of edges.py, then COUNT random
-jobs of SEED with the evaluator's text, joins alone with `try_listing.py COUNT SEED joined`. The listing has a budget
-and buffers of its own: those of a random job are left out of account. Needs target/bin/listing (`rt check listing`).
-Where one differs its bytes go to differs.job in the folder for temporary files, and the status is 1.
+jobs of SEED with the evaluator's text, joins alone with `try_listing.py COUNT SEED joined`. A random job is given to
+the listing, whose budget is its own, and with the job's budget to the other program. Both have buffers of their own:
+those of a random job are left out of account. The programs are proved and built where they are not there. Where a text
+differs the bytes go to differs.job in the folder for temporary files, and the status is 1.
 """
 
 import itertools
@@ -17,7 +18,7 @@ import edges
 import evaluator
 import format as fmt
 import generate
-from built import built_listing
+from built import printed
 from naive.matching import Matching
 from naive.plan import read_plan
 from naive.question import read_question
@@ -44,25 +45,28 @@ def short_enough(job):
 
 
 def stored_jobs():
-    """The stored jobs and the longest ones: name, bytes, text."""
+    """The stored jobs and the longest ones: program, name, bytes, text."""
     for path in sorted(STORED.glob("*.job")):
-        yield path.stem, path.read_bytes(), path.with_suffix(".out").read_text()
-    yield from edges.long_listing_jobs()
+        yield "listing", path.stem, path.read_bytes(), path.with_suffix(".out").read_text()
+    for long in edges.long_listing_jobs():
+        yield "listing", *long
 
 
 def random_jobs(count, seed, generated):
-    """Fresh jobs with the evaluator's text."""
+    """Fresh jobs with the evaluator's text, twice: under the listing's budget and under their own."""
     for place, job in enumerate(generated(seed, count)):
         if short_enough(job):
-            content = fmt.job_bytes(job)
-            yield f"job {place} of seed {seed}", content, evaluator.listing(content)
+            name, content = f"job {place} of seed {seed}", fmt.job_bytes(job)
+            yield "listing", name, content, evaluator.listing(content)
+            content = fmt.budgeted_bytes(content, job.budget)
+            yield "budgeted", name, content, evaluator.budgeted(content)
 
 
-def differs(name, job, got, wanted):
+def differs(program, name, job, got, wanted):
     """Tells of a difference and ends."""
     kept = Path(tempfile.gettempdir()) / "differs.job"
     kept.write_bytes(job)
-    print(f"{name} DIFFERS; its bytes are in {kept}\n  got    {got[:400]!r}\n  wanted {wanted[:400]!r}")
+    print(f"{program}, {name} DIFFERS; its bytes are in {kept}\n  got    {got[:400]!r}\n  wanted {wanted[:400]!r}")
     sys.exit(1)
 
 
@@ -73,14 +77,14 @@ def main(arguments):
         sys.exit("usage: try_listing.py COUNT SEED | try_listing.py COUNT SEED joined")
     count, seed = map(int, numbers)
     began, tried, accepted = time.monotonic(), 0, 0
-    for name, job, wanted in itertools.chain(stored_jobs(), random_jobs(count, seed, generated)):
-        got = built_listing(job)
+    for program, name, job, wanted in itertools.chain(stored_jobs(), random_jobs(count, seed, generated)):
+        got = printed(program, job)
         if got != wanted:
-            differs(name, job, got, wanted)
+            differs(program, name, job, got, wanted)
         tried, accepted = tried + 1, accepted + wanted.startswith("ok")
         if tried % BETWEEN == 0:
-            print(f"{tried} jobs agree, {accepted} of them accepted, {time.monotonic() - began:.0f} s", flush=True)
-    print(f"all {tried} jobs agree, {accepted} of them accepted, {time.monotonic() - began:.0f} s")
+            print(f"{tried} texts agree, {accepted} of them accepted, {time.monotonic() - began:.0f} s", flush=True)
+    print(f"all {tried} texts agree, {accepted} of them accepted, {time.monotonic() - began:.0f} s")
 
 
 if __name__ == "__main__":

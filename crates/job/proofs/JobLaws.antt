@@ -1,4 +1,5 @@
--- The parts by place are the model's job: `job-told`, and `parts-none` where the bytes are no job.
+-- The parts by place are the model's: `part-told` of one part; `job-told` of a job, and `parts-none` where the bytes are
+-- none.
 use Prim.Native.Nat.{ℕ, zero, suc, _+_, _-_, _%_, _≤_, zero-le}
 use native.Mathlib.Omega.{arith}
 use mathlib.Core.Bool.{Bool, true, false, _&&_, cond}
@@ -22,7 +23,7 @@ and-false true = refl
 and-false false = refl
 
 -- ---- one part
-abbrev told : List ℕ → Part → Option (List ℕ × List ℕ)
+abbrev pub told : List ℕ → Part → Option (List ℕ × List ℕ)
 told bs p = cond (p .ok) (some (take (p .size) (drop (p .at) bs), drop (p .at + p .size) bs)) none
 
 told-there : (bs : List ℕ) (t : Bool) (i n : ℕ)
@@ -94,7 +95,7 @@ module _ (bs : List ℕ) (m : Mark) (i : ℕ) where
       ∙ ap₂ (λ (t : Bool) (l : List ℕ). cond (leb n 65536 && t) (some (take n (drop (i + 6) bs), l)) none)
       (fits-is h) (drop-drop n (i + 6) bs)
 
-  part-told : partOf m (drop i bs) ≡ told bs (partAt bs i x y)
+  pub part-told : partOf m (drop i bs) ≡ told bs (partAt bs i x y)
   unfolding partOf partAt
   part-told = go (leb 6 (length (drop i bs))) refl ∙ sym (told-there bs (stands bs i x y) (i + 6) n)
     where
@@ -149,7 +150,7 @@ unfolding after only
 after-only true a cs f = refl
 after-only false a cs f = refl
 
-ends-is : (bs : List ℕ) (e : ℕ) → e ≤ length bs → ends (drop e bs) ≡ eqb e (length bs)
+pub ends-is : (bs : List ℕ) (e : ℕ) → e ≤ length bs → ends (drop e bs) ≡ eqb e (length bs)
 unfolding ends
 ends-is [] zero h = refl
 ends-is [] (suc e) h = absurd (omega arith)

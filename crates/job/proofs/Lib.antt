@@ -6,4 +6,5 @@ pub mod WordLaws
 pub mod RowLaws
 pub mod TextLaws
 pub mod JobLaws
+pub mod BudgetLaws
 pub mod ListingLaws

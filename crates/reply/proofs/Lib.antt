@@ -1,2 +1,3 @@
 -- The laws of a reply.
 pub mod ReplyLaws
+pub mod BudgetLaws
