@@ -1,6 +1,6 @@
 """Tests abe: the example, every question under tests/questions, mistakes in files, and the words of refusals.
 
-Prints a line for each check; status 1 if one fails. It needs the built program named listing (`rt check listing`).
+Prints a line for each check; status 1 if one fails. It needs the built program named budgeted (`rt check budgeted`).
 """
 
 import subprocess
@@ -17,7 +17,7 @@ TESTS = HERE.parent / "tests"
 sys.path[:0] = [str(HERE), str(TESTS)]
 
 import format as fmt                                                    # noqa: E402
-from answering import counting, large_words, listed                     # noqa: E402
+from answering import answered, large_words                             # noqa: E402
 from causes import CAUSES, PAPER, subtree_of                            # noqa: E402
 from naive import question as read                                      # noqa: E402
 from naive.matching import Matching                                     # noqa: E402
@@ -167,7 +167,7 @@ CASES = [
      ("q.abe", *(f"t{number}.csv" for number in range(8))), 2,
      "bad job: the tables would take 65,604 bytes, at most 65,536 are read"),
     ("17 by 17 and a budget", {"t.csv": rows_of(17), "q.abe": WIDE + "budget 305\n"}, ("q.abe", "t.csv"), 1,
-     "no 12: over the budget of 305 trials, the plan takes 306"),
+     "no 12: over the budget of 305 trials"),
     ("17 by 17 within the budget", {"t.csv": rows_of(17), "q.abe": WIDE + "budget 306\n"}, ("q.abe", "t.csv"), 1,
      "no 13: a set of block top has over 256 rows"),
 ]
@@ -237,14 +237,14 @@ def stored_words():
           f"{jobs} stored jobs, {wrong} wrong")
 
 
-def stored_counts():
-    """The question that only counts has the trials of the one that it stands for."""
+def stored_answers():
+    """Each stored job gets its number and its trials, under its own budget; those with short buffers are left out."""
     jobs = wrong = 0
     for _, found, number, trials in stored_jobs():
-        if number in (0, 13):
+        if number not in (1, 2):
             jobs += 1
-            wrong += listed(counting(found))[::2] != (0, trials)
-    check("counts: the counting question has the same trials", wrong == 0, f"{jobs} stored jobs, {wrong} wrong")
+            wrong += answered(found)[::2] != (number, None if number else trials)
+    check("budgets: numbers and trials of the stored jobs", wrong == 0, f"{jobs} stored jobs, {wrong} wrong")
 
 
 def large_blocks(matching, number, binding):
@@ -278,7 +278,7 @@ def short_row():
     table, entries = block.relation_rows[0]
     cut = replace(found, blocks=[replace(block, relation_rows=[(table, entries[:-1])]), *found.blocks[1:]])
     words = f"t{table} has {len(entries)} columns, the row has {len(entries) - 1}"
-    check("words: a short row", listed(cut)[0] == 7 and CAUSES[7](cut) == words, words)
+    check("words: a short row", answered(cut)[0] == 7 and CAUSES[7](cut) == words, words)
 
 
 def decimals():
@@ -296,7 +296,7 @@ def main():
         case(*each)
     decimals()
     stored_words()
-    stored_counts()
+    stored_answers()
     stored_large()
     short_row()
     print(f"{len(FAILED)} failed" if FAILED else "all passed")
