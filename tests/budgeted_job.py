@@ -3,12 +3,11 @@
 writes it to standard output, `budgeted_job.py --write` to crates/budgeted/stdin.
 """
 
-import sys
 from pathlib import Path
 
 import format as fmt
 from listing_job import longest_job
-from usage import help_first
+from usage import give_input
 
 STDIN = Path(__file__).resolve().parent.parent / "crates" / "budgeted" / "stdin"
 
@@ -18,15 +17,5 @@ def longest_input():
     return fmt.budgeted_bytes(longest_job(), fmt.LISTING_BUDGET)
 
 
-def main(arguments):
-    if arguments == ["--write"]:
-        STDIN.write_bytes(longest_input())
-    elif arguments:
-        sys.exit("usage: budgeted_job.py | budgeted_job.py --write")
-    else:
-        sys.stdout.buffer.write(longest_input())
-
-
 if __name__ == "__main__":
-    help_first(__doc__)
-    main(sys.argv[1:])
+    give_input(__doc__, STDIN, longest_input)

@@ -9,7 +9,6 @@ the whole is about 2.7 megabytes.
 """
 
 import itertools
-import sys
 from dataclasses import replace
 from pathlib import Path
 
@@ -27,7 +26,7 @@ from naive.tables import tables_of
 from naive.trials import Spent, Trials
 from reader_expected import number_of
 from reader_jobs import faulty_job, planned_job, question_jobs
-from usage import help_first
+from usage import give_input
 
 STDIN = Path(__file__).resolve().parent.parent / "crates" / "cases" / "stdin"
 SEED = 475_001
@@ -211,15 +210,5 @@ def jobs():
     return found + list(long_jobs(draw))
 
 
-def main(arguments):
-    if arguments == ["--write"]:
-        STDIN.write_bytes(fmt.stream_bytes(jobs()))
-    elif arguments:
-        sys.exit("usage: cases_jobs.py | cases_jobs.py --write")
-    else:
-        sys.stdout.buffer.write(fmt.stream_bytes(jobs()))
-
-
 if __name__ == "__main__":
-    help_first(__doc__)
-    main(sys.argv[1:])
+    give_input(__doc__, STDIN, lambda: fmt.stream_bytes(jobs()))

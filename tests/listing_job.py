@@ -3,12 +3,11 @@
 it to standard output, `listing_job.py --write` to crates/listing/stdin.
 """
 
-import sys
 from pathlib import Path
 
 import edges
 import format as fmt
-from usage import help_first
+from usage import give_input
 
 STDIN = Path(__file__).resolve().parent.parent / "crates" / "listing" / "stdin"
 LONGEST_PART = 65_536
@@ -21,15 +20,5 @@ def longest_job():
     return edges.parts(*(content + bytes(LONGEST_PART - len(content)) for content in contents))
 
 
-def main(arguments):
-    if arguments == ["--write"]:
-        STDIN.write_bytes(longest_job())
-    elif arguments:
-        sys.exit("usage: listing_job.py | listing_job.py --write")
-    else:
-        sys.stdout.buffer.write(longest_job())
-
-
 if __name__ == "__main__":
-    help_first(__doc__)
-    main(sys.argv[1:])
+    give_input(__doc__, STDIN, longest_job)

@@ -6,7 +6,6 @@ text that is printed for it.
 has a head of six bytes: the mark LI (for listing) or BJ (for budgeted), and its length, four bytes, the lowest first.
 """
 
-import sys
 from pathlib import Path
 
 import edges
@@ -14,7 +13,7 @@ import evaluator
 import format as fmt
 import limits
 from listing_job import longest_job
-from usage import help_first
+from usage import give_input
 
 STDIN = Path(__file__).resolve().parent.parent / "crates" / "listings" / "stdin"
 LISTING, BUDGETED = b"LI", b"BJ"
@@ -91,15 +90,5 @@ def stream():
     return b"".join(fmt.part(mark, content) for mark, content, _ in inputs())
 
 
-def main(arguments):
-    if arguments == ["--write"]:
-        STDIN.write_bytes(stream())
-    elif arguments:
-        sys.exit("usage: listings_jobs.py | listings_jobs.py --write")
-    else:
-        sys.stdout.buffer.write(stream())
-
-
 if __name__ == "__main__":
-    help_first(__doc__)
-    main(sys.argv[1:])
+    give_input(__doc__, STDIN, stream)

@@ -7,7 +7,6 @@ two and three faults at once, questions with some bytes changed, and accepted qu
 small: the whole is about a megabyte.
 """
 
-import sys
 from pathlib import Path
 
 import damage
@@ -16,7 +15,7 @@ import generate
 import limits
 import notation
 from draw import Draw
-from usage import help_first
+from usage import give_input
 
 HERE = Path(__file__).resolve().parent
 STDIN = HERE.parent / "crates" / "reader_test" / "stdin"
@@ -70,15 +69,5 @@ def jobs():
     return found
 
 
-def main(arguments):
-    if arguments == ["--write"]:
-        STDIN.write_bytes(fmt.stream_bytes(jobs()))
-    elif arguments:
-        sys.exit("usage: reader_jobs.py | reader_jobs.py --write")
-    else:
-        sys.stdout.buffer.write(fmt.stream_bytes(jobs()))
-
-
 if __name__ == "__main__":
-    help_first(__doc__)
-    main(sys.argv[1:])
+    give_input(__doc__, STDIN, lambda: fmt.stream_bytes(jobs()))
