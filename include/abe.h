@@ -75,8 +75,10 @@ extern "C" {
 #define ABE_TRIALS  3
 
 /* The result: row r, column c of n columns stands at words 2 * (r * n + c) and the next, numerator then denominator, in
- * lowest terms with the denominator positive (1 for a whole). Each row stands once; they ascend by exact value, first
- * column first. */
+ * lowest terms with the denominator positive (1 for a whole). Each row stands once, and the rows ascend by exact value,
+ * first column first: of a row and the next there is a column in which the first is less, and the words of the columns
+ * before it are equal. n/d is less than m/e where n * e < m * d; both products fit an int64_t. The order is promised:
+ * whatever the plan, the budget and the buffers, one question over the same data that is accepted gives the same words. */
 #define ABE_NUMERATOR(r, c, n)   (2 * ((size_t)(r) * (size_t)(n) + (size_t)(c)))
 #define ABE_DENOMINATOR(r, c, n) (ABE_NUMERATOR(r, c, n) + 1)
 

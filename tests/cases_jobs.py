@@ -5,7 +5,7 @@
 and accepted questions, each under admitted plans of different paths and at budgets about the count; blocks over
 projections of tables; the stored joins; sets about 256 rows; the limits on both sides; damaged questions and plans; the
 largest numerators; buffers short, exact and longer; data and questions of the greatest length. Most tables are small:
-the whole is about 2.7 megabytes.
+the whole is about 3 megabytes.
 """
 
 import itertools

@@ -73,15 +73,22 @@ def stored_files():
         yield f"listing/{name}.out", text.encode()
 
 
-def numbers_of(answers):
-    """The numbers in a text of answers."""
-    lines, numbers = iter(answers.decode().splitlines()), set()
+def answers_in(text):
+    """The answers in a text of them: the number, and the rows as their lines have them, numerators and denominators."""
+    lines = iter(text.splitlines())
     for line in lines:
         number, rows, _, _ = map(int, line.split())
-        numbers.add(number)
-        for _ in range(rows):
-            next(lines)
-    return numbers
+        yield number, [[value_of(field) for field in next(lines).split()] for _ in range(rows)]
+
+
+def value_of(field):
+    numerator, _, denominator = field.partition("/")
+    return int(numerator), int(denominator or 1)
+
+
+def numbers_of(answers):
+    """The numbers in a text of answers."""
+    return {number for number, _ in answers_in(answers.decode())}
 
 
 def check_questions():
@@ -108,12 +115,15 @@ def check_edges():
 
 
 def check_limits():
-    """Each limit, and one past it, by its number; the largest numerator."""
+    """Each limit, and one past it, by its number; the largest numerators."""
     jobs = list(limits.limit_jobs())
     for what, job, number in jobs:
         same(f"limit: {what}", evaluator.run_job(job).number, number)
     largest = evaluator.run_job(limits.largest_numerator())
     same("the largest numerator", (largest.trials, largest.row_list), (768, [((16_777_216_000_000, 1),)]))
+    largest = evaluator.run_job(limits.largest_numerators())
+    same("the largest numerators", (largest.trials, largest.row_list),
+         (1_544, [((-16_777_216_000_000, 1), (2, 1)), ((16_777_216_000_000, 1), (1, 1))]))
     return f"{len(jobs)} limits"
 
 
@@ -149,6 +159,25 @@ def check_stored():
     return f"{len(files)} stored files, {sum(map(len, files.values())):,} bytes"
 
 
+def precedes(row, other):
+    """Whether a row is less than another: in the first column in which they differ, by cross products."""
+    differing = [(one, two) for one, two in zip(row, other) if one != two]
+    return differing != [] and differing[0][0][0] * differing[0][1][1] < differing[0][1][0] * differing[0][0][1]
+
+
+def check_order():
+    """Request No. 2: in every stored output each row is less than the next."""
+    pairs = 0
+    for path in [*sorted(QUESTIONS.glob("*.out")), *sorted(STORED.glob("*.answers"))]:
+        if path.name == "indexes.answers":
+            continue
+        for place, (_, rows) in enumerate(answers_in(path.read_text())):
+            for row, other in itertools.pairwise(rows):
+                same(f"{path.name}, answer {place}: {row} before {other}", precedes(row, other), True)
+                pairs += 1
+    return f"{pairs:,} pairs of neighbouring rows"
+
+
 def check_round_trip():
     """Bytes to notation and back, over accepted questions with any plan, budget and buffers."""
     draw = Draw(22)
@@ -176,8 +205,8 @@ def drafts(draw, count, crowded, joined):
 
 
 def check_plans():
-    """Demand 3: all admitted plans give the same rows and the same refusal by 13, and file to index to merging never
-    raises the count; the count itself is met as a budget and missed by one."""
+    """Demand 3 and request No. 2: all admitted plans give the same refusal by 13, or the same rows in the same words of
+    the result; file to index to merging never raises the count; the count is met as a budget and missed by one."""
     draw, plans = Draw(33), 0
     for place, draft in enumerate(drafts(draw, 250, 25, 80)):
         matching, counts, outcomes = draft.matching(), {}, set()
@@ -192,7 +221,7 @@ def check_plans():
 
 
 def check_plan(draft, trials):
-    """One plan at three budgets; its number and rows at the first."""
+    """One plan at three budgets; its number and the result's words at the first."""
     job = draft.job()
     answer = evaluator.run(job.data, job.question, job.plan, 2**64 - 1)
     same("trials in full", answer.trials, trials)
@@ -201,7 +230,7 @@ def check_plan(draft, trials):
     if trials > 0:
         missed = evaluator.run(job.data, job.question, job.plan, trials - 1)
         same("budget missed by one", missed[:5], (12, 0, 0, trials - 1, []))
-    return answer.number, tuple(answer.row_list)
+    return answer.number, tuple(answer.after.result)
 
 
 def check_counts(place, counts):
@@ -283,7 +312,7 @@ def check_edits():
 
 
 # --apart leaves out the first two, which look outside this folder
-CHECKS = [check_edits, check_programs, check_questions, check_edges, check_limits, check_faults, check_stored,
+CHECKS = [check_edits, check_programs, check_questions, check_edges, check_limits, check_faults, check_stored, check_order,
           check_round_trip, check_plans, check_sqlite]
 
 

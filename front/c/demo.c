@@ -1,6 +1,6 @@
 /* Job J of the scope paper from C: which pans there are, and the average Brix of each pan's samples. The question and the
- * plan are put together record by record, the answer is printed as the program `listing` prints it; then three refusals
- * and an index. */
+ * plan are put together record by record, the answer is printed as the program `listing` prints it. Then the rows' order
+ * and words by every path, three refusals and an index. */
 #include <inttypes.h>
 #include <stdio.h>
 #include <string.h>
@@ -58,6 +58,51 @@ static void print_answer(unsigned number) {
         }
 }
 
+/* Whether two values are less (-1), equal (0) or more (1), by cross products: these are below 2^52 in size, since no
+ * numerator passes 16,777,216,000,000 and no denominator 256. */
+static int order(int64_t n, int64_t d, int64_t m, int64_t e) {
+    return (n * e > m * d) - (n * e < m * d);
+}
+
+/* Whether each row in the result is less than the next, first column first. */
+static int ascend(void) {
+    uint64_t rows = figures[ABE_ROWS], columns = figures[ABE_COLUMNS];
+    for (uint64_t r = 0; r + 1 < rows; r++) {
+        int told = 0;
+        for (uint64_t c = 0; c < columns && told == 0; c++)
+            told = order(result[ABE_NUMERATOR(r, c, columns)], result[ABE_DENOMINATOR(r, c, columns)],
+                         result[ABE_NUMERATOR(r + 1, c, columns)], result[ABE_DENOMINATOR(r + 1, c, columns)]);
+        if (told >= 0) return 0;
+    }
+    return 1;
+}
+
+/* The question of job J, its two output columns as they are or the average first; gives its length. */
+static size_t question_j(uint8_t *question, int average_first) {
+    used = 0;
+    block(255);
+    relation_row(0, 1), variable(0);
+    output_list(2);
+    if (average_first)
+        aggregate(4, 1, 1), variable(0);
+    else
+        variable(0), aggregate(4, 1, 1);
+    block(0);
+    relation_row(1, 3), variable(1), fixed(0), variable(2);
+    output_list(2), variable(1), variable(2);
+    mark("EN");
+    memcpy(question, bytes, used);
+    return used;
+}
+
+/* A plan of file for block 0 and a path for block 1; gives its length. */
+static size_t plan_j(uint8_t *plan, unsigned way, unsigned column) {
+    used = 0;
+    path(0, 0), path(way, column);
+    memcpy(plan, bytes, used);
+    return used;
+}
+
 int main(void) {
     /* Two tables: pan (one column, four rows); sample, pan, tenths of Brix (three columns, four rows). */
     static const int32_t words[] = {2, 1, 4, 3, 4,
@@ -67,26 +112,27 @@ int main(void) {
     const uint64_t budget = 1000000000;
 
     uint8_t question[256], plan[8];
-    block(255);
-    relation_row(0, 1), variable(0);
-    output_list(2), variable(0), aggregate(4, 1, 1);
-    block(0);
-    relation_row(1, 3), variable(1), fixed(0), variable(2);
-    output_list(2), variable(1), variable(2);
-    mark("EN");
-    const size_t question_len = used;
-    memcpy(question, bytes, used);
-
-    used = 0;
-    path(0, 0), path(2, 1);
-    const size_t plan_len = used;
-    memcpy(plan, bytes, used);
-
+    const size_t question_len = question_j(question, 0), plan_len = plan_j(plan, ABE_PATH_MERGING, 1);
     print_answer(run(words, words_len, question, question_len, plan, plan_len, budget, ABE_SETS_WORDS));
 
-    /* Refusals: the result keeps its words. */
+    /* The rows ascend by exact value, first column first: 905 before 1823/2. */
+    printf("average first: ");
+    question_j(question, 1);
+    print_answer(run(words, words_len, question, question_len, plan, plan_len, budget, ABE_SETS_WORDS));
+    printf("rows %s\n", ascend() ? "ascend" : "DO NOT ASCEND");
+
+    /* By every path, over a result whose rows were wiped out: the same words again. */
     int64_t before[ABE_RESULT_WORDS];
     memcpy(before, result, sizeof before);
+    for (unsigned way = ABE_PATH_FILE; way <= ABE_PATH_MERGING; way++) {
+        memset(result, 0, 12 * sizeof result[0]);
+        plan_j(plan, way, way == ABE_PATH_FILE ? 0 : 1);
+        run(words, words_len, question, question_len, plan, plan_len, budget, ABE_SETS_WORDS);
+        printf("path %u: %" PRIu64 " trials, %s words\n", way, figures[ABE_TRIALS],
+               memcmp(before, result, sizeof before) == 0 ? "the same" : "OTHER");
+    }
+
+    /* Refusals: the result keeps its words. */
     printf("sets one word short: ");
     print_answer(run(words, words_len, question, question_len, plan, plan_len, budget, ABE_SETS_WORDS - 1));
     printf("a mark damaged: ");

@@ -3,3 +3,4 @@ pub mod RefusalSteps
 pub mod PrepareSteps
 pub mod RunSteps
 pub mod RunsAgree
+pub mod RunsOrdered

@@ -2,3 +2,4 @@
 pub mod Settling
 pub mod Runs
 pub mod RunAgreement
+pub mod RunOrder

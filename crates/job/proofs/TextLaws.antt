@@ -1,5 +1,6 @@
 -- The text over the words is the model's: `text-told` where the words begin with those of the rows, `text-refused`
--- under any number but 0. Before that, what `print_answer` puts.
+-- under any number but 0; `rows-read`: the rows of an accepted answer are read off the words in their order. Before that,
+-- what `print_answer` puts.
 use Prim.Native.Nat.{ℕ, zero, suc, _+_, _*_, _/_, _≤_, min}
 use native.Mathlib.Nat.{zero-lt-suc, le-div-iff-mul-le}
 use native.Mathlib.Omega.{arith}
@@ -176,6 +177,17 @@ refused-told a rs e = rw (ne-eqb (a .number) 0 e) refl
 -- under any number but 0 neither words nor rows tell
 pub text-refused : (a : Answer) (ws : List ℤ) (rs : List Row) → (a .number ≡ 0 → ⊥) → text a ws ≡ answerText a rs
 text-refused a ws rs e = refused-text a ws e ∙ sym (refused-told a rs e)
+
+-- the rows of an accepted answer, read off a result that held other words
+pub rows-read : (a : Answer) (rs : List Row) (words : List ℤ) → a .number ≡ 0 → a .rows ≡ length rs
+    → All (λ r. length r ≡ a .columns) rs
+    → answerText a rs ≡ okLine a ++ linesText (overwrite (setWords rs) words) (a .columns) (a .rows)
+unfolding overwrite
+rows-read a rs words z k u =
+    accepted-told a rs z
+    ∙ ap (λ t. okLine a ++ t)
+    (sym (ap (linesText (setWords rs ++ drop (length (setWords rs)) words) (a .columns)) k
+    ∙ lines-told (a .columns) rs (drop (length (setWords rs)) words) u))
 
 -- the words begin with those of the rows
 pub text-told : (a : Answer) (rs : List Row) (rest : List ℤ) → a .rows ≡ length rs

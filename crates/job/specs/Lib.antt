@@ -1,3 +1,4 @@
 pub mod Places
 pub mod Texts
 pub mod Budgets
+pub mod AsRead

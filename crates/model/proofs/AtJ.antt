@@ -1,23 +1,27 @@
 -- The theorems at job J: their premises are met, and what they say can be seen.
 use Prim.Native.Nat.{ℕ, zero, suc, _<_, _≤_}
 use native.Mathlib.Omega.{arith}
-use mathlib.Core.List.{[], _∷_}
+use mathlib.Core.List.{List, [], _∷_}
 use mathlib.Core.Path.{_≡_, refl}
+use lib.IntN.{ℤ}
 use lib.ListN.{length}
-use Rattle.model.specs.Answer.{count}
+use Rattle.model.specs.Answer.{count, answerOf, resultAfter}
 use Rattle.model.specs.Index.{indexOf, indexNumber, indexAfter}
-use Rattle.model.specs.Lists.{All}
+use Rattle.model.specs.Lists.{All, overwrite}
 use Rattle.model.specs.Matching.{setOf}
 use Rattle.model.specs.Plan.{pathIn}
 use Rattle.model.specs.PlanAgreement.{root, Accepted, TwoRuns, file-to-index, index-to-merging, OneChanged}
 use Rattle.model.specs.Records.{questionOf}
+use Rattle.model.specs.ResultOrder.{RowsAscend, AnyTwoAscend, SameWords}
 use Rattle.model.specs.Scan.{unbound}
 use Rattle.model.specs.Scope.{levels}
 use Rattle.model.proofs.EvaluatedSizes.{Fits, evaluated-fits}
-use Rattle.model.proofs.Examples.{enough, dataJ, questionJ, planJ}
+use Rattle.model.proofs.Examples.{enough, integers, dataJ, questionJ, planJ, rowsJ}
 use Rattle.model.proofs.Opens.{opens}
 use Rattle.model.proofs.PlansAgree.{plans-agree, change-never-raises}
 use Rattle.model.proofs.RefusalLaws.{Passes, accepted-passes}
+use Rattle.model.proofs.ResultOrder.{result-ascends, rows-between, plans-same-words, plans-same-result}
+use Rattle.model.proofs.ResultOrder.{plans-same-after}
 
 pub J-accepted : Accepted enough dataJ questionJ
 unfolding opens
@@ -30,6 +34,50 @@ J-passes = accepted-passes enough dataJ questionJ J-accepted
 pub J-plans : TwoRuns enough enough dataJ questionJ (planJ 0 0) (planJ 2 1) 20 7
 unfolding opens
 J-plans = plans-agree enough enough dataJ questionJ (planJ 0 0) (planJ 2 1) 20 7 J-accepted J-accepted tt tt
+
+-- the result after J by file, index and merging, each at its count of trials, over any words
+module _ (words : List ℤ) where
+  abbrev by-file : List ℤ
+  by-file = resultAfter enough dataJ questionJ (planJ 0 0) 20 words
+
+  abbrev by-index : List ℤ
+  by-index = resultAfter enough dataJ questionJ (planJ 1 1) 10 words
+
+  abbrev by-merging : List ℤ
+  by-merging = resultAfter enough dataJ questionJ (planJ 2 1) 8 words
+
+  -- the twelve words of the rows in front, the others kept
+  pub J-words : (by-file ≡ overwrite (integers rowsJ) words) × (by-index ≡ overwrite (integers rowsJ) words)
+      × (by-merging ≡ overwrite (integers rowsJ) words)
+  unfolding opens
+  J-words = (refl, refl, refl)
+
+  -- three rows of two columns that ascend, neighbours and any two
+  pub J-ascends : RowsAscend 2 3 by-merging × AnyTwoAscend 2 3 by-merging
+  unfolding opens
+  J-ascends = (
+    result-ascends enough dataJ questionJ (planJ 2 1) 8 words refl,
+    rows-between enough dataJ questionJ (planJ 2 1) 8 words refl,
+  )
+
+  -- the whole results: where both gave rows, and where neither is over its budget
+  pub J-same-result : by-file ≡ by-merging
+  unfolding opens
+  J-same-result = plans-same-result enough enough dataJ questionJ (planJ 0 0) (planJ 2 1) 20 8 words refl refl
+
+  pub J-same-after : by-file ≡ by-merging
+  unfolding opens
+  J-same-after =
+      plans-same-after enough enough dataJ questionJ (planJ 0 0) (planJ 2 1) 20 8 words J-accepted J-accepted tt tt
+      (λ e. omega arith) (λ e. omega arith)
+
+-- the words of the rows, over results that held other words
+pub J-same-words : (words words′ : List ℤ)
+    → SameWords (answerOf enough dataJ questionJ (planJ 0 0) 20) (answerOf enough dataJ questionJ (planJ 2 1) 8)
+    (by-file words) (by-merging words′)
+unfolding opens
+J-same-words words words′ =
+    plans-same-words enough enough dataJ questionJ (planJ 0 0) (planJ 2 1) 20 8 words words′ refl refl
 
 -- index on 1 made merging on 1, and file made index on 1
 to-merging : OneChanged questionJ (planJ 1 1) (planJ 2 1)

@@ -34,6 +34,7 @@ pub mod EvaluatedSizes
 pub mod IndexLaws
 pub mod AnswerLaws
 pub mod BufferLaws
+pub mod ResultOrder
 pub mod AtJ
 pub mod AggregateEquations
 pub mod AnswerEquations

@@ -17,4 +17,5 @@ pub mod Index
 pub mod Outcome
 pub mod Answer
 pub mod PlanAgreement
+pub mod ResultOrder
 pub mod Listing

@@ -10,7 +10,8 @@
 --   integerText x        an integer; valueText v: a value, its numerator alone where the denominator is 1
 --   rowText r            a row's line, its fields split by a space; rowsText rs: the lines of rows
 --   okLine a, noLine n   the first line of an accepted answer; the line of a refusal by number n
---   answerText a rs      what is printed for answer a, with rows rs where it is accepted; badJob: for no job
+--   answerText a rs      what is printed for answer a, with rows rs where it is accepted, as they stand in the result (No. 2);
+--                        badJob: for no job
 --   listingBudget        the budget of the listing; longEnough: buffers of the least lengths that are not refused
 --   jobText j            what is printed for a job; listingOf bs: for the bytes of standard input
 use Prim.Native.Nat.{ℕ, zero, suc, _+_, _-_, _/_, _%_, _^_}

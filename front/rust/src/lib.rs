@@ -48,7 +48,8 @@ mod archive {
 pub struct Answer {
     /// 0 if accepted, else the cause of refusal.
     pub number: u8,
-    /// The rows, each once, ascending: numerator and denominator of each column, in lowest terms, the denominator positive.
+    /// The rows, each once, ascending by exact value, first column first; the same for every plan, budget and buffers. A value is
+    /// numerator and denominator, in lowest terms, the denominator positive.
     pub rows: Vec<Vec<(i64, i64)>>,
     pub columns: usize,
     pub trials: u64,
@@ -109,7 +110,8 @@ impl Buffers {
         }
     }
 
-    /// Answers a question over the data's tables by a plan, with at most `budget` trials.
+    /// Answers a question over the data's tables by a plan, with at most `budget` trials. Its rows stand in front of
+    /// `self.result`, in the order of the answer: two plans that are accepted leave the same words there.
     pub fn run(&mut self, data: &[i32], question: &[u8], plan: &[u8], budget: u64) -> Answer {
         let mut figures = [0u64; 4];
         let number = self.call(data, question, plan, budget, &mut figures);

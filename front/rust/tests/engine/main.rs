@@ -2,6 +2,7 @@
 mod draw;
 mod evaluator;
 mod job;
+mod order;
 
 use abe::{Answer, Buffers, FILES_WORDS, INDEXES_WORDS, RESULT_WORDS, SETS_WORDS};
 use draw::Random;
@@ -34,30 +35,40 @@ fn work_zeroed(buffers: &Buffers, before: &Buffers) -> bool {
         && zeroed(&buffers.indexes, &before.indexes, INDEXES_WORDS)
 }
 
-/// Runs on filled buffers and checks every word of them by the answer.
-fn run(job: &Job, budget: u64) -> Answer {
-    static BEFORE: OnceLock<Buffers> = OnceLock::new();
-    let before = BEFORE.get_or_init(filled);
+/// Runs on copies of these buffers and checks every word of them by the answer, and that the rows ascend; gives the result's
+/// words besides.
+fn run_on(before: &Buffers, job: &Job, budget: u64) -> (Answer, Vec<i64>) {
     let mut buffers = before.clone();
     let answer = buffers.run(&job.data, &job.question, &job.plan, budget);
     assert_ne!(answer.number, 1);
     assert!(work_zeroed(&buffers, before));
-    let written = if answer.number == 0 { 2 * answer.rows.len() * answer.columns } else { 0 };
+    let written = words_of_rows(&answer);
     assert!(buffers.result[written..] == before.result[written..]);
     if answer.number != 0 {
         assert!(answer.rows.is_empty() && answer.columns == 0);
     }
-    answer
+    assert!(order::ascend(&buffers.result, answer.rows.len(), answer.columns));
+    (answer, buffers.result)
 }
 
-/// The answer as the evaluator gives it. The rows must ascend strictly, in lowest terms.
+/// How many words the rows of an answer have: none on refusal.
+fn words_of_rows(answer: &Answer) -> usize {
+    2 * answer.rows.len() * answer.columns
+}
+
+/// The same on filled buffers; the answer alone.
+fn run(job: &Job, budget: u64) -> Answer {
+    static BEFORE: OnceLock<Buffers> = OnceLock::new();
+    run_on(BEFORE.get_or_init(filled), job, budget).0
+}
+
+/// The answer as the evaluator gives it. The values must be in lowest terms.
 fn told(answer: &Answer) -> Expected {
     let row = |row: &Vec<(i64, i64)>| -> Vec<Fraction> {
         row.iter().map(|(n, d)| Fraction { top: *n as i128, bottom: *d as i128 }).collect()
     };
     let rows: Vec<Vec<Fraction>> = answer.rows.iter().map(row).collect();
     assert!(rows.iter().flatten().all(|v| v.bottom > 0 && *v == Fraction::new(v.top, v.bottom)));
-    assert!(rows.windows(2).all(|pair| pair[0] < pair[1]));
     Expected { number: answer.number, rows: rows.into_iter().collect::<Set>(), columns: answer.columns, trials: answer.trials }
 }
 
@@ -115,6 +126,69 @@ fn other_boils_of_the_paper() {
         assert_eq!((answer.number, answer.trials), (number, 16 + 16 * pairs as u64));
         assert_eq!(answer.rows.len(), if number == 0 { 256 } else { 0 });
     }
+}
+
+/// The greatest numerator and the least, in two rows, the greater met first: in 1,544 trials by merging.
+#[test]
+fn largest_numerators() {
+    let runs = (1, (0..256).map(|run| vec![run]).collect());
+    let signs = (2, vec![vec![1, 1_000_000], vec![2, -1_000_000]]);
+    let sum = |block| Aggregate { function: 1, block, column: 1 };
+    let each = |parent: u8, own: i64, value, output| evaluator::Block {
+        parent,
+        relations: vec![
+            evaluator::Relation { table: 0, entries: vec![Fixed(0), value] },
+            evaluator::Relation { table: 1, entries: vec![Variable(own)] },
+        ],
+        conditions: vec![],
+        outputs: vec![Variable(own), output],
+    };
+    let top = evaluator::Block {
+        parent: 255,
+        relations: vec![evaluator::Relation { table: 0, entries: vec![Variable(0), Empty] }],
+        conditions: vec![],
+        outputs: vec![sum(1), Variable(0)],
+    };
+    let third = each(2, 3, Variable(4), Variable(4));
+    let job = Job {
+        data: job::data_words(&[signs, runs]),
+        question: question_bytes(&[top, each(0, 1, Empty, sum(2)), each(1, 2, Empty, sum(3)), third]),
+        plan: plan_bytes(&[(0, 0), (2, 0), (2, 0), (2, 0)]),
+    };
+    let (answer, words) = run_on(&filled(), &job, 1_544);
+    assert_eq!((answer.number, answer.trials), (0, 1_544));
+    assert_eq!(words[..8], [-16_777_216_000_000, 1, 2, 1, 16_777_216_000_000, 1, 1, 1]);
+}
+
+/// Request No. 2: under any admitted plan and any budget that is enough the rows of a question stand in the same words, and
+/// over the same words before the whole results are the same. Questions of two rows and more.
+#[test]
+fn plans_leave_the_same_words() {
+    let mut r = Random::new(count_from("ABE_SEED", 1) + 2);
+    let before = filled();
+    let other = Buffers { result: vec![-1; RESULT_WORDS + 3 * SPARE], ..filled() };
+    let (mut questions, mut runs, mut rows, mut ratios) = (0, 0, 0, 0);
+    while questions < 1500 {
+        let (mut job, blocks) = draw::job(&mut r);
+        let (first, words) = run_on(&before, &job, PATIENCE);
+        if first.rows.len() < 2 {
+            continue;
+        }
+        questions += 1;
+        rows += first.rows.len();
+        ratios += first.rows.iter().flatten().filter(|value| value.1 != 1).count();
+        for _ in 0..4 {
+            job.plan = draw::plan(&mut r, &blocks);
+            let (second, same) = run_on(&before, &job, BUDGET);
+            assert_eq!((second.number, second.columns), (0, first.columns));
+            assert!(same == words);
+            let (third, others) = run_on(&other, &job, second.trials);
+            assert_eq!((third.number, third.rows.len()), (0, first.rows.len()));
+            assert!(others[..words_of_rows(&first)] == words[..words_of_rows(&first)]);
+            runs += 2;
+        }
+    }
+    println!("the same words: {questions} questions, {runs} runs; {rows} rows, {ratios} values that are no wholes");
 }
 
 #[test]
