@@ -30,8 +30,9 @@ static void print_rows(void)
     for (uint64_t r = 0; r < rows; r++)
         for (uint64_t c = 0; c < columns; c++) {
             const int64_t *v = result + ABE_NUMERATOR(r, c, columns);
-            printf("%lld", (long long)v[0]);
-            if (v[1] != 1) printf("/%lld", (long long)v[1]);
+            if (ABE_IS_ABSENT(v[0], v[1])) printf("-");
+            else printf("%lld", (long long)v[0]);
+            if (v[1] > 1) printf("/%lld", (long long)v[1]);
             putchar(c + 1 < columns ? ' ' : '\n');
         }
 }

@@ -75,7 +75,7 @@ static inline int work_of(const char *name)
     return w;
 }
 
-/* A result row: two whole columns and one ratio, or three wholes; unused are 0/1. */
+/* A result row: two whole columns and one ratio, or three wholes; unused are 0/1. Absent is 0/0. */
 typedef struct { int64_t a, b, n, d; } row;
 typedef struct { row r[256]; int len; uint64_t trials; } answer;
 
@@ -84,6 +84,7 @@ static inline int by_columns(const void *x, const void *y)
     const row *p = x, *q = y;
     if (p->a != q->a) return p->a < q->a ? -1 : 1;
     if (p->b != q->b) return p->b < q->b ? -1 : 1;
+    if (!p->d || !q->d) return !!p->d - !!q->d;            /* absent first */
     __int128 l = (__int128)p->n * q->d, r = (__int128)q->n * p->d;
     return l < r ? -1 : l > r;
 }
@@ -97,9 +98,9 @@ static inline void print_answer(answer *s, int columns)
         row *r = &s->r[i];
         printf("%lld", (long long)r->a);
         if (columns == 3) printf(" %lld", (long long)r->b);
-        printf(" %lld", (long long)r->n);
-        if (r->d != 1) printf("/%lld", (long long)r->d);
-        printf("\n");
+        if (r->d == 0) printf(" -\n");
+        else if (r->d == 1) printf(" %lld\n", (long long)r->n);
+        else printf(" %lld/%lld\n", (long long)r->n, (long long)r->d);
     }
 }
 

@@ -129,7 +129,7 @@ static row row_of(int work, int form, const int64_t *v)
         if (form == 0) n = (n - d) / 1024;
     }
     if (LAST[work] == COUNT_SUM) return (row){ v[0], d, n, 1 };
-    if (d == 0) return (row){ v[0], second, 0, 1 };
+    if (d == 0) return (row){ v[0], second, 0, 0 };
     int64_t g = gcd(n, d);
     return (row){ v[0], second, n / g, d / g };
 }

@@ -49,6 +49,9 @@ def answered(question):
 
 
 def value_of(field):
+    """Numerator and denominator; 0 and 0 for an absent value, printed as a minus sign."""
+    if field == "-":
+        return 0, 0
     numerator, _, denominator = field.partition("/")
     return int(numerator), int(denominator or 1)
 

@@ -1,4 +1,5 @@
-"""Rows as an aligned table. Of a ratio both the fraction and the decimal are shown, side by side."""
+"""Rows as an aligned table. Of a ratio both the fraction and the decimal are shown, side by side; of an absent value, 0
+over 0, a minus sign."""
 
 PLACES = 6
 GAP = "  "
@@ -13,10 +14,15 @@ def decimal_of(numerator, denominator):
     return f"{about}{'-' if numerator < 0 else ''}{digits[:-places]}.{digits[-places:]}"
 
 
+def value_text(numerator, denominator):
+    """A whole number, a fraction, or a minus sign for an absent value."""
+    return {0: "-", 1: str(numerator)}.get(denominator, f"{numerator}/{denominator}")
+
+
 def column_texts(title, values):
     """The lines of one column, title first, all of one width."""
-    fractions = [str(n) if d == 1 else f"{n}/{d}" for n, d in values]
-    decimals = ["" if d == 1 else decimal_of(n, d) for n, d in values]
+    fractions = [value_text(n, d) for n, d in values]
+    decimals = [decimal_of(n, d) if d > 1 else "" for n, d in values]
     width = max(map(len, fractions), default=0)
     cells = [fraction.rjust(width) for fraction in fractions]
     if any(decimals):

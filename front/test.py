@@ -22,7 +22,7 @@ from causes import CAUSES, PAPER, subtree_of                            # noqa: 
 from naive import question as read                                      # noqa: E402
 from naive.matching import Matching                                     # noqa: E402
 from naive.tables import laid_out, tables_of                            # noqa: E402
-from printing import decimal_of                                         # noqa: E402
+from printing import decimal_of, table_text                             # noqa: E402
 from question import Question                                           # noqa: E402
 from usage import help_first                                            # noqa: E402
 
@@ -54,7 +54,7 @@ def example():
 # The questions under tests/questions.
 
 def value_of(field):
-    return Fraction(field)
+    return None if field == "-" else Fraction(field)
 
 
 def printed_rows(lines):
@@ -64,7 +64,7 @@ def printed_rows(lines):
         row, fields = [], line.split()
         while fields:
             row.append(value_of(fields.pop(0)))
-            if row[-1].denominator != 1:
+            if row[-1] is not None and row[-1].denominator != 1:
                 decimal = fields.pop(0)
                 error = abs(value_of(decimal.removeprefix("~")) - row[-1])
                 if error > Fraction(1, 2_000_000) if decimal[0] == "~" else error != 0:
@@ -144,6 +144,10 @@ CASES = [
      " P\n-2\n 1\n2 rows, 2 trials"),
     ("a table in the file, one in CSV", {"q.abe": "table pans (pan)\n 1\n" + BRIX}, ("q.abe", "samples.csv"), 0,
      "pan  samples  ave(each.brix)\n  1        2   1823/2  911.5\n1 row, 3 trials"),
+    ("a pan without samples", {"pans.csv": "pan\n3\n1\n"}, ALL, 0,
+     "pan  samples  ave(each.brix)\n  1        2   1823/2  911.5\n  3        0        -\n2 rows, 4 trials"),
+    ("absent first", {"pans.csv": "pan\n1\n3\n", "q.abe": BRIX.replace("P as pan, count(each) as samples, ", "")}, ALL,
+     0, "ave(each.brix)\n      -\n 1823/2  911.5\n2 rows, 4 trials"),
     ("no rows", {"q.abe": "block top\n pans (pan = P)\n where P > 9\n give P\n"}, ALL, 0, "P\n0 rows, 2 trials"),
     ("257 rows", {"t.csv": rows_of(257), "q.abe": "block top\n t (c = A)\n give A\n"}, ("q.abe", "t.csv"), 1,
      "no 3: t has 257 rows, a table has at most 256"),
@@ -215,7 +219,7 @@ def question_of(job):
 
 def stored_jobs():
     """Each stored job, with the question that it is, its number and its trials."""
-    for name in ("questions", "limits", "random", "joined"):
+    for name in ("questions", "limits", "random", "joined", "absent"):
         lines = (TESTS / f"stored/{name}.answers").read_text().splitlines()
         for job in fmt.jobs_of((TESTS / f"stored/{name}.stream").read_bytes()):
             number, rows, _, trials = map(int, lines.pop(0).split())
@@ -288,6 +292,16 @@ def decimals():
     check("decimals", not wrong, f"{len(cases)} ratios" if not wrong else str(wrong))
 
 
+def absents():
+    """An absent value stands alone: among ratios, among wholes, by itself."""
+    one, half, none = (1, 1), (-1, 2), (0, 0)
+    cases = {(none, half): "m\n   -\n-1/2  -0.5", (none, one): "m\n-\n1", (none,): "m\n-"}
+    wrong = [case for case, text in cases.items()
+             if [line.rstrip() for line in table_text(["m"], [[value] for value in case], 0).splitlines()[:-1]]
+             != text.splitlines()]
+    check("absent values", not wrong, f"{len(cases)} columns" if not wrong else str(wrong))
+
+
 def main():
     example()
     for path in sorted((TESTS / "questions").glob("*.abe")):
@@ -295,6 +309,7 @@ def main():
     for each in CASES:
         case(*each)
     decimals()
+    absents()
     stored_words()
     stored_answers()
     stored_large()

@@ -75,12 +75,15 @@ extern "C" {
 #define ABE_TRIALS  3
 
 /* The result: row r, column c of n columns stands at words 2 * (r * n + c) and the next, numerator then denominator, in
- * lowest terms with the denominator positive (1 for a whole). Each row stands once, and the rows ascend by exact value,
- * first column first: of a row and the next there is a column in which the first is less, and the words of the columns
- * before it are equal. n/d is less than m/e where n * e < m * d; both products fit an int64_t. The order is promised:
- * whatever the plan, the budget and the buffers, one question over the same data that is accepted gives the same words. */
+ * lowest terms with the denominator positive (1 for a whole); 0 and 0 for absent, which min, max and ave of no values are.
+ * Each row stands once, and the rows ascend by exact value, first column first: of a row and the next there is a column in
+ * which the first is less, and the words of the columns before it are equal. Absent is less than every other value: ask
+ * for it first, since its products are 0. Of the others n/d is less than m/e where n * e < m * d; both products fit an
+ * int64_t. The order is promised: whatever the plan, the budget and the buffers, one question over the same data that is
+ * accepted gives the same words. */
 #define ABE_NUMERATOR(r, c, n)   (2 * ((size_t)(r) * (size_t)(n) + (size_t)(c)))
 #define ABE_DENOMINATOR(r, c, n) (ABE_NUMERATOR(r, c, n) + 1)
+#define ABE_IS_ABSENT(num, den)  ((num) == 0 && (den) == 0)
 
 /* Answers a question over the tables in `words` by a plan, with at most `budget` trials; returns the number, which is also
  * figures[ABE_NUMBER].

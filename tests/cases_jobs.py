@@ -3,9 +3,9 @@
 
 `cases_jobs.py` writes it to standard output, `cases_jobs.py --write` to crates/cases/stdin. It holds the question files
 and accepted questions, each under admitted plans of different paths and at budgets about the count; blocks over
-projections of tables; the stored joins; sets about 256 rows; the limits on both sides; damaged questions and plans; the
-largest numerators; buffers short, exact and longer; data and questions of the greatest length. Most tables are small:
-the whole is about 3 megabytes.
+projections of tables; the stored joins and the stored questions over children that are often empty; sets about 256
+rows; the limits on both sides; damaged questions and plans; the largest numerators; buffers short, exact and longer;
+data and questions of the greatest length. Most tables are small: the whole is about 3 megabytes.
 """
 
 import itertools
@@ -199,6 +199,7 @@ def jobs():
     for _ in range(STACKED):
         found += stacked_jobs(draw)
     found += [lent(draw, job) for job in generate.joined_jobs(generate.JOINED_SEED, generate.JOINED)]
+    found += [lent(draw, job) for job in generate.absent_jobs(generate.ABSENT_SEED, generate.ABSENT)]
     for make, count in [(greatest_job, GREATEST), (averages_job, AVERAGES), (toilsome_job, TOILSOME),
                         (short_job, SHORT)]:
         found += [make(draw) for _ in range(count)]

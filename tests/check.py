@@ -27,7 +27,7 @@ from usage import help_first
 HERE = FilePath(__file__).resolve().parent
 QUESTIONS = HERE / "questions"
 STORED = HERE / "stored"
-JOBS_SEED, JOBS = 4748, 260
+JOBS_SEED, JOBS = 4749, 260
 INDEX_SEED, INDEX_CALLS = 474, 60
 MOST_PLANS = 24
 PROGRAMS = {"value_expected.py": "value_test", "tables_expected.py": "tables_test",      # who computes the stdout of
@@ -61,7 +61,8 @@ def stored_files():
     streams = {"questions": list(question_jobs().values()),
                "limits": [job for _, job, _ in limits.limit_jobs(long=False)],
                "random": generate.random_jobs(JOBS_SEED, JOBS),
-               "joined": generate.joined_jobs(generate.JOINED_SEED, generate.JOINED)}
+               "joined": generate.joined_jobs(generate.JOINED_SEED, generate.JOINED),
+               "absent": generate.absent_jobs(generate.ABSENT_SEED, generate.ABSENT)}
     for name, jobs in streams.items():
         yield f"{name}.stream", fmt.stream_bytes(jobs)
         yield f"{name}.answers", "".join(evaluator.answer_text(evaluator.run_job(job)) for job in jobs).encode()
@@ -82,6 +83,8 @@ def answers_in(text):
 
 
 def value_of(field):
+    if field == "-":
+        return 0, 0
     numerator, _, denominator = field.partition("/")
     return int(numerator), int(denominator or 1)
 
@@ -149,20 +152,24 @@ def check_stored():
         same(f"stored/{name}", path.read_bytes(), wanted)
     present = {str(path.relative_to(STORED)) for path in STORED.rglob("*") if path.is_file()}
     same("files under stored/", sorted(present), sorted(files))
-    for name in ("questions", "limits", "random", "joined"):
+    for name in ("questions", "limits", "random", "joined", "absent"):
         for job in fmt.jobs_of(files[f"{name}.stream"]):
             if len(job.data) > 1_024 or len(job.question) > 4_096 or len(job.plan) > 64:
                 raise Differs(f"a job of {name}.stream is longer than README.md says")
     same("numbers met in limits.stream", numbers_of(files["limits.answers"]), {*range(14)})
     same("numbers met in random.stream", numbers_of(files["random.answers"]), {0, *range(3, 14)})
     same("numbers met in joined.stream", numbers_of(files["joined.answers"]), {0, 12, 13})
+    same("numbers met in absent.stream", numbers_of(files["absent.answers"]), {0, 12})
     return f"{len(files)} stored files, {sum(map(len, files.values())):,} bytes"
 
 
 def precedes(row, other):
-    """Whether a row is less than another: in the first column in which they differ, by cross products."""
-    differing = [(one, two) for one, two in zip(row, other) if one != two]
-    return differing != [] and differing[0][0][0] * differing[0][1][1] < differing[0][1][0] * differing[0][0][1]
+    """Whether a row is less than another: in the first column in which they differ, absent first (request No. 3), else
+    by cross products."""
+    for (n, d), (m, e) in zip(row, other):
+        if (n, d) != (m, e):
+            return d == 0 if 0 in (d, e) else n * e < m * d
+    return False
 
 
 def check_order():
@@ -196,19 +203,22 @@ def check_round_trip():
     return f"{shown} jobs"
 
 
-def drafts(draw, count, crowded, joined):
-    """`count` accepted questions, of every `crowded` one crowded, and after them `joined` joins."""
+def drafts(draw, count, crowded, joined, absent):
+    """`count` accepted questions, of every `crowded` one crowded, after them `joined` joins, and `absent` ones over
+    children that are often empty."""
     for place in range(count):
         yield generate.crowded_draft(draw) if place % crowded == 0 else generate.random_draft(draw)
     for _ in range(joined):
         yield generate.joined_draft(draw)
+    for _ in range(absent):
+        yield generate.absent_draft(draw)
 
 
 def check_plans():
     """Demand 3 and request No. 2: all admitted plans give the same refusal by 13, or the same rows in the same words of
     the result; file to index to merging never raises the count; the count is met as a budget and missed by one."""
     draw, plans = Draw(33), 0
-    for place, draft in enumerate(drafts(draw, 250, 25, 80)):
+    for place, draft in enumerate(drafts(draw, 250, 25, 80, 80)):
         matching, counts, outcomes = draft.matching(), {}, set()
         for paths in itertools.islice(itertools.product(*draft.admitted()), MOST_PLANS):
             counts[paths] = Trials(matching, [Path(*path) for path in paths]).count()
@@ -217,7 +227,7 @@ def check_plans():
         same(f"outcomes of question {place} under its plans", len(outcomes), 1)
         check_counts(place, counts)
         plans += len(counts)
-    return f"{plans} plans of 330 questions"
+    return f"{plans} plans of 410 questions"
 
 
 def check_plan(draft, trials):
@@ -246,12 +256,12 @@ def check_counts(place, counts):
 def check_sqlite():
     """SQLite's rows, trials and largest set against the evaluator's."""
     draw, questions, plans = Draw(44), 0, 0
-    for place, draft in enumerate(drafts(draw, 400, 10, 120)):
+    for place, draft in enumerate(drafts(draw, 400, 10, 120, 200)):
         job = draft.job()
         matching = Matching(read_question(job.question), tables_of(job.data))
         sql = Sql(matching.blocks, matching.tables)
         try:
-            same(f"rows of question {place}", sorted(matching.set_of(0, {})), sql.rows())
+            same(f"rows of question {place}", evaluator.row_list(matching.set_of(0, {})), sql.rows())
             for paths in [tuple(draft.paths), tuple([(0, 0)] * len(matching.blocks))]:
                 counted = Trials(matching, [Path(*path) for path in paths]).count()
                 same(f"trials of question {place} under {paths}", counted, sql.trials(paths))
@@ -262,7 +272,7 @@ def check_sqlite():
             continue
         finally:
             sql.close()
-    if questions < 300:
+    if questions < 500:
         raise Differs(f"only {questions} questions were short enough for SQLite")
     return f"{questions} questions, {plans} plans"
 

@@ -79,7 +79,7 @@ def taken_jobs(arguments):
     if arguments:
         jobs = generate.random_jobs(int(arguments[0]), int(arguments[1]))
     else:
-        jobs = [job for name in ["questions", "limits", "random", "joined"]
+        jobs = [job for name in ["questions", "limits", "random", "joined", "absent"]
                 for job in streams.jobs_of((STORED / f"{name}.stream").read_bytes())]
     pairs = [(job, evaluator.run_job(job)) for job in jobs]
     return [(job, answer) for job, answer in pairs

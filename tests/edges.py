@@ -10,8 +10,8 @@ import limits
 import notation
 
 J = fmt.Job(fmt.data_words(limits.J_TABLES), fmt.question_bytes(limits.j_blocks()), fmt.plan_bytes([(0, 0), (2, 1)]))
-J_LISTING = "ok 3 2 8\n1 1823/2\n2 905\n3 0\n"
-J_WORDS = [1, 1, 1823, 2, 2, 1, 905, 1, 3, 1, 0, 1]
+J_LISTING = "ok 3 2 8\n1 1823/2\n2 905\n3 -\n"
+J_WORDS = [1, 1, 1823, 2, 2, 1, 905, 1, 3, 1, 0, 0]
 J_SAMPLES = 1
 
 

@@ -1,10 +1,11 @@
 """Jobs at random from a seed: accepted questions with all admitted plans, values that come again, projections of tables
-and blocks over them, relation rows joined by conditions, crowded sets, limits, damaged jobs.
+and blocks over them, relation rows joined by conditions, children that are often empty, crowded sets, limits, damaged
+jobs.
 
 Command line: `generate.py jobs SEED COUNT > stream`, `generate.py joined SEED COUNT > stream` for joins alone,
-`generate.py indexes SEED COUNT > index stream`; the answers are `evaluator.py answers < stream` and
-`evaluator.py indexes < index stream`. `generate.py limits > stream` has the limit jobs alone, those over 4,000 words
-too.
+`generate.py absent SEED COUNT > stream` for absent values, `generate.py indexes SEED COUNT > index stream`; the answers
+are `evaluator.py answers < stream` and `evaluator.py indexes < index stream`. `generate.py limits > stream` has the
+limit jobs alone, those over 4,000 words too.
 """
 
 import sys
@@ -30,6 +31,7 @@ BELOW_ROWS = [0, 1, 1, 1, 1, 2, 3], [1, 1, 1, 1, 2, 2, 3]       # .. every other
 FAR = [1_000_000, -1_000_000, 1_000_001, -1_000_001, 10**15, -10**15,       # the values' ends, past them, and what has
        2**32, 2**32 + 1, 2 - 2**32]                                         # .. the last 32 bits of a small value
 JOINED_SEED, JOINED = 4754, 300         # the joins that are stored, and run by crate cases
+ABSENT_SEED, ABSENT = 4703, 300         # .. the questions over children that are often empty
 
 
 @dataclass
@@ -90,6 +92,15 @@ def joined_tables(draw):
     return tables
 
 
+def sparse_tables(draw):
+    """Two to four tables, in which a value of one is often in no row of another; some without rows."""
+    tables = []
+    for _ in range(draw.between(2, 4)):
+        columns, rows = draw.between(2, 3), 0 if draw.chance(8) else draw.between(3, 7)
+        tables.append((columns, [[draw.between(-1, 4) for _ in range(columns)] for _ in range(rows)]))
+    return tables
+
+
 def repeat_column(draw, columns, rows):
     """Has one column take one value or two in most rows."""
     column = draw.below(columns)
@@ -108,6 +119,8 @@ def random_value(draw, few=SMALL):
 
 class QuestionMaker:
     """One question free of causes 5 to 10, over given tables."""
+
+    functions = [0, 1, 2, 3, 4, 4], [0, 2, 3]       # of a whole column, of a ratio column
 
     def __init__(self, draw, tables):
         self.draw = draw
@@ -189,7 +202,7 @@ class QuestionMaker:
         child = self.draw.one_of(children)
         self.left[child] -= 1
         column = self.draw.below(len(self.ratio[child]))
-        function = self.draw.one_of([0, 2, 3] if self.ratio[child][column] else [0, 1, 2, 3, 4, 4])
+        function = self.draw.one_of(self.functions[self.ratio[child][column]])
         return fmt.aggregate(function, child, 0 if function == 0 else column)
 
     def is_ratio(self, element):
@@ -269,6 +282,49 @@ class JoinMaker(QuestionMaker):
         if self.draw.chance(8):
             return fmt.CONSTANT, self.draw.one_of(FAR)
         return super().plain(number)
+
+
+class SparseMaker(QuestionMaker):
+    """A question of two to five blocks, each mostly below the one before, whose aggregates are mostly min, max and ave,
+    put out and compared: of children that are often empty, and of columns in which values are absent."""
+
+    functions = [0, 1, 1, 2, 2, 3, 3, 4, 4, 4], [0, 2, 2, 3, 3]
+
+    def make(self):
+        for _ in range(self.draw.one_of([1, 2, 2, 2, 3, 3, 4])):
+            parents = [number for number, level in enumerate(self.levels) if level < DEEPEST_LEVEL]
+            parent = parents[-1] if self.draw.chance(80) else self.draw.one_of(parents)
+            self.blocks.append(fmt.BlockText(parent))
+            self.levels.append(self.levels[parent] + 1)
+        return self.fill()
+
+    def relation_rows(self, number):
+        """Each with a new variable and, of a leaf block mostly, one of an ancestor; block 0 now and then has none."""
+        self.variables.append([])
+        above, leaf = self.above(number), not self.children(number)
+        for _ in range(self.draw.one_of([1, 1, 1, 2] if number else [0, 1, 1, 1, 1])):
+            table, entries = self.draw.below(len(self.tables)), [self.new_variable(number)]
+            if above and self.draw.chance(85 if leaf else 40):
+                entries.append((fmt.FIXED, above[0] if self.draw.chance(80) else self.draw.one_of(above)))
+            while len(entries) < self.tables[table][0]:
+                another = self.draw.chance(40) and len(self.free) > 8
+                entries.append(self.new_variable(number) if another else (fmt.EMPTY, 0))
+            self.blocks[number].relation_rows.append((table, self.draw.shuffled(entries)))
+
+    def output(self, number):
+        """A variable now and then, and aggregates."""
+        output, own = self.blocks[number].output, self.variables[number]
+        output += [(fmt.VARIABLE, self.draw.one_of(own))] if own and self.draw.chance(50) else []
+        output += [self.aggregate(number) for _ in range(self.draw.between(1, 2)) if self.children(number)]
+        output += [(fmt.VARIABLE, self.draw.one_of(own))] if not output else []
+        self.ratio[number] = [self.is_ratio(element) for element in output]
+
+    def conditions(self, number):
+        """Of an aggregate mostly, with a plain element or with another aggregate."""
+        for _ in range(self.draw.one_of([0, 0, 0, 1, 1])):
+            left, right = self.aggregate(number), self.aggregate(number) if self.draw.chance(40) else None
+            self.blocks[number].conditions.append(
+                (self.draw.below(6), *self.draw.shuffled([left or self.plain(number), right or self.plain(number)])))
 
 
 def random_draft(draw):
@@ -388,6 +444,11 @@ def joined_draft(draw):
     return crowded_join(draw) if draw.chance(10) else made_draft(draw, joined_tables, JoinMaker)
 
 
+def absent_draft(draw):
+    """Children that are often empty, with an admitted plan, accepted as far as 11."""
+    return made_draft(draw, sparse_tables, SparseMaker)
+
+
 def crowded_join(draw):
     """Sets about 256 rows over runs most of which a condition refuses: of block 0, or of a child that perhaps no match
     wants."""
@@ -483,11 +544,21 @@ def random_jobs(seed, count):
 
 
 def joined_jobs(seed, count):
-    """`count` jobs of joined relation rows, two of a question, each with a plan of its own and a budget: ample, or
-    from 0 to a little past the count."""
+    """`count` jobs of joined relation rows."""
+    return planned_jobs(seed, count, joined_draft)
+
+
+def absent_jobs(seed, count):
+    """`count` jobs of children that are often empty."""
+    return planned_jobs(seed, count, absent_draft)
+
+
+def planned_jobs(seed, count, make):
+    """`count` jobs, two of a question, each with a plan of its own and a budget: ample, or from 0 to a little past the
+    count."""
     draw, jobs = Draw(seed), []
     while len(jobs) < count:
-        draft = joined_draft(draw)
+        draft = make(draw)
         for _ in range(2):
             draft.paths = [draw.one_of(paths) for paths in draft.admitted()]
             trials = trials_of(draft)
@@ -519,12 +590,14 @@ def main(arguments):
         out.write(fmt.stream_bytes(random_jobs(int(arguments[1]), int(arguments[2]))))
     elif len(arguments) == 3 and arguments[0] == "joined":
         out.write(fmt.stream_bytes(joined_jobs(int(arguments[1]), int(arguments[2]))))
+    elif len(arguments) == 3 and arguments[0] == "absent":
+        out.write(fmt.stream_bytes(absent_jobs(int(arguments[1]), int(arguments[2]))))
     elif len(arguments) == 3 and arguments[0] == "indexes":
         out.write(fmt.index_stream_bytes(random_index_calls(int(arguments[1]), int(arguments[2]))))
     elif arguments == ["limits"]:
         out.write(fmt.stream_bytes([job for _, job, _ in limits.limit_jobs()]))
     else:
-        sys.exit("usage: generate.py jobs|joined|indexes SEED COUNT | generate.py limits")
+        sys.exit("usage: generate.py jobs|joined|absent|indexes SEED COUNT | generate.py limits")
 
 
 if __name__ == "__main__":

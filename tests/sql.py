@@ -1,14 +1,13 @@
 """Questions as SQL, for SQLite: a second opinion on the rows, the trials and too large.
 
-A value is a pair of columns, numerator and denominator. A block's set is SELECT DISTINCT over its live relation rows,
-an aggregate a correlated subquery over the child's set. Trials are counted by joins: every block has a table of its
-evaluations (context), one of the matches whose plain conditions hold (passing), and each relation row adds the number
-of matches before it times the rows of its table.
+A value is a pair of columns, numerator and denominator; an absent one is NULL in both, for which SQL has the rules of
+request No. 3. A block's set is SELECT DISTINCT over its live relation rows, an aggregate a correlated subquery over the
+child's set. Trials are counted by joins: every block has a table of its evaluations (context), one of the matches whose
+plain conditions hold (passing), and each relation row adds the number of matches before it times the rows of its table.
 """
 
 import math
 import sqlite3
-from fractions import Fraction
 
 from naive.question import Aggregate, Constant, Empty, Fixed, Variable
 
@@ -28,7 +27,7 @@ class Sql:
         self.tables = tables
         self.aliases = 0
         self.base = sqlite3.connect(":memory:")
-        self.base.create_function("gcd", 2, lambda total, count: math.gcd(total or 0, count), deterministic=True)
+        self.base.create_function("gcd", 2, divisor, deterministic=True)
         for number, table in enumerate(tables):
             names = ", ".join(f"c{column} INTEGER" for column in range(table.columns))
             self.base.execute(f"CREATE TABLE t{number} ({names})")
@@ -79,11 +78,12 @@ class Sql:
         return f"SELECT DISTINCT {columns}" + clauses(sources, terms)
 
     def condition(self, condition, known):
+        """By cross products; where one value is absent they are NULL, and no row is found."""
         (n, d), (m, e) = self.value(condition.left, known), self.value(condition.right, known)
         return f"({n}) * ({e}) {OPERATORS[condition.operator]} ({m}) * ({d})"
 
     def value(self, element, known):
-        """The expressions of numerator and denominator."""
+        """The expressions of numerator and denominator. All functions pass over NULL, but for count(*)."""
         if isinstance(element, Constant):
             return str(element.value), "1"
         if not isinstance(element, Aggregate):
@@ -97,15 +97,16 @@ class Sql:
         if element.function == 1:
             return f"(SELECT coalesce(sum({n}), 0) FROM ({rows}))", "1"
         if element.function == 4:
-            return (f"(SELECT coalesce(sum({n}) / gcd(sum({n}), count(*)), 0) FROM ({rows}))",
-                    f"(SELECT CASE count(*) WHEN 0 THEN 1 ELSE count(*) / gcd(sum({n}), count(*)) END FROM ({rows}))")
-        order = f"ORDER BY {n} * 1.0 / {d} {'ASC' if element.function == 2 else 'DESC'} LIMIT 1"
-        return (f"coalesce((SELECT {n} FROM ({rows}) {order}), 0)", f"coalesce((SELECT {d} FROM ({rows}) {order}), 1)")
+            return tuple(f"(SELECT {part}({n}) / gcd(sum({n}), count({n})) FROM ({rows}))" for part in ("sum", "count"))
+        direction = "ASC" if element.function == 2 else "DESC"
+        first = f"FROM ({rows}) WHERE {d} IS NOT NULL ORDER BY {n} * 1.0 / {d} {direction} LIMIT 1"
+        return f"(SELECT {n} {first})", f"(SELECT {d} {first})"
 
     def rows(self):
-        """The rows of block 0, ascending."""
-        found = self.ask(self.set_of(0, {}))
-        return sorted(tuple(Fraction(n, d) for n, d in zip(row[::2], row[1::2])) for row in found)
+        """The rows of block 0 in SQLite's order, NULL first; a value is (numerator, denominator), absent (0, 0)."""
+        order = ", ".join(f"n{place} * 1.0 / d{place}" for place in range(len(self.blocks[0].output)))
+        found = self.ask(f"SELECT * FROM ({self.set_of(0, {})}) ORDER BY {order}")
+        return [tuple((n or 0, d or 0) for n, d in zip(row[::2], row[1::2])) for row in found]
 
     def trials(self, plan):
         """The plan's count of trials, a path being a pair of code and column."""
@@ -166,6 +167,11 @@ class Sql:
                                      f"FROM passing{number} AS passing")
                     largest = max(largest, sizes[0][0] or 0)
         return largest
+
+
+def divisor(total, count):
+    """What an average is divided through by; NULL, as its total, of no values."""
+    return math.gcd(total, count) if count else None
 
 
 def clauses(sources, terms):

@@ -2,10 +2,11 @@
 """Tries the built programs named listing and budgeted on fresh jobs: `try_listing.py COUNT SEED`. Not part of the gate.
 
 The stored listing jobs come first, with the text stored for each, then the longest jobs of edges.py, then COUNT random
-jobs of SEED with the evaluator's text, joins alone with `try_listing.py COUNT SEED joined`. A random job is given to
-the listing, whose budget is its own, and with the job's budget to the other program. Both have buffers of their own:
-those of a random job are left out of account. The programs are proved and built where they are not there. Where a text
-differs the bytes go to differs.job in the folder for temporary files, and the status is 1.
+jobs of SEED with the evaluator's text, joins alone with `try_listing.py COUNT SEED joined`, children that are often
+empty with `absent` in its place. A random job is given to the listing, whose budget is its own, and with the job's
+budget to the other program. Both have buffers of their own: those of a random job are left out of account. The programs
+are proved and built where they are not there. Where a text differs the bytes go to differs.job in the folder for
+temporary files, and the status is 1.
 """
 
 import itertools
@@ -29,6 +30,7 @@ from usage import help_first
 
 STORED = Path(__file__).resolve().parent / "stored" / "listing"
 BETWEEN = 200               # jobs from one line of progress to the next
+GENERATED = {"": generate.random_jobs, "joined": generate.joined_jobs, "absent": generate.absent_jobs}
 MOST_TRIALS = 300_000       # a changed question may try so many rows that the evaluator takes too long
 
 
@@ -71,11 +73,10 @@ def differs(program, name, job, got, wanted):
 
 
 def main(arguments):
-    joined = arguments[2:] == ["joined"]
-    generated, numbers = (generate.joined_jobs, arguments[:2]) if joined else (generate.random_jobs, arguments)
-    if len(numbers) != 2 or not all(word.isdigit() for word in numbers):
-        sys.exit("usage: try_listing.py COUNT SEED | try_listing.py COUNT SEED joined")
-    count, seed = map(int, numbers)
+    numbers, kind = arguments[:2], " ".join(arguments[2:])
+    if len(numbers) != 2 or not all(word.isdigit() for word in numbers) or kind not in GENERATED:
+        sys.exit("usage: try_listing.py COUNT SEED | try_listing.py COUNT SEED joined|absent")
+    (count, seed), generated = map(int, numbers), GENERATED[kind]
     began, tried, accepted = time.monotonic(), 0, 0
     for program, name, job, wanted in itertools.chain(stored_jobs(), random_jobs(count, seed, generated)):
         got = printed(program, job)

@@ -1,9 +1,10 @@
 #!/usr/bin/env python3
-"""The lines of crate value_test, computed apart from it: fractions for values, a sorted list of tuples for a set.
+"""The lines of crate value_test, computed apart from it: fractions for values, a sorted list of tuples for a set. An
+absent value (request No. 3) is None, in words 0 and 0.
 
 Prints the whole expected output; `python3 tests/value_expected.py > crates/value_test/stdout` stores it.
 """
-from bisect import bisect_left, insort
+from bisect import bisect_left
 from fractions import Fraction
 from math import gcd
 from usage import help_first
@@ -13,15 +14,24 @@ END = 16_777_216_000_000           # the greatest numerator of a result
 
 
 def inside(v):
-    return abs(v[0]) <= BOUND and 1 <= v[1] <= ROWS
+    return v == (0, 0) or abs(v[0]) <= BOUND and 1 <= v[1] <= ROWS
 
 
 def text(v):
     return f"{v[0]}/{v[1]}"
 
 
+def value_of(v):
+    return None if v == (0, 0) else Fraction(*v)
+
+
 def pair_of(q):
-    return (q.numerator, q.denominator)
+    return (0, 0) if q is None else (q.numerator, q.denominator)
+
+
+def key_of(q):
+    """What values are ordered by, absent first."""
+    return (0,) if q is None else (1, q)
 
 
 # ---- two values
@@ -34,9 +44,9 @@ def order_line(x, y):
     if not (inside(x) and inside(y)):
         told, answers = "outside", ["outside"] * 6
     else:
-        a, b = Fraction(*x), Fraction(*y)
-        told = "less" if a < b else "greater" if a > b else "equal"
-        answers = ["yes" if test(a, b) else "no" for _, test in OPERATORS]
+        a, b = value_of(x), value_of(y)
+        told = "less" if key_of(a) < key_of(b) else "greater" if key_of(a) > key_of(b) else "equal"
+        answers = ["yes" if None not in (a, b) and test(a, b) else "no" for _, test in OPERATORS]
     tests = " ".join(f"{name} {answer}" for (name, _), answer in zip(OPERATORS, answers))
     return f"order {text(x)} {text(y)} {told} {tests}"
 
@@ -47,16 +57,24 @@ def orders():
         for y in values:
             yield order_line(x, y)
     one = (1, 1)
-    for x, y in [((BOUND + 1, 1), one), (one, (-BOUND - 1, 1)), ((0, 257), one), (one, (0, 0)), ((1, -1), one),
+    for x, y in [((BOUND + 1, 1), one), (one, (-BOUND - 1, 1)), ((0, 257), one), (one, (1, 0)), ((1, -1), one),
                  ((-2**63, 1), one), (one, (2**63 - 1, 256))]:
         yield order_line(x, y)
+
+
+def absents():
+    """Absent, four values that are like it and outside the bounds, and three inside: each against each."""
+    values = [(0, 0), (1, 0), (-1, 0), (0, -1), (0, 257), (1, 256), (-BOUND, 1), (BOUND, 1)]
+    for x in values:
+        for y in values:
+            yield order_line(x, y)
 
 
 # ---- averages and divisors
 
 def average(total, count):
     if count == 0:
-        return (0, 1)
+        return (0, 0)
     if count > ROWS or abs(total) > ROWS * BOUND:
         return None
     return pair_of(Fraction(total, count))
@@ -70,6 +88,11 @@ def averages():
             yield f"average {total} over {count} is {text(v) if v else 'outside'}"
 
 
+def empties():
+    for f in (0, 1, 2, 3, 4, 5, 255):
+        yield f"empty {f} is {'0/1' if f < 2 else '0/0'}"
+
+
 def divisors():
     for a, b in [(0, 0), (0, 256), (256, 0), (END, 256), (END, 255), (2**64 - 1, 255), (2**64 - 1, 2**64 - 2),
                  (12200160415121876738, 7540113804746346429)]:
@@ -79,7 +102,7 @@ def divisors():
 # ---- sets
 
 class Set:
-    """Rows as tuples of fractions in ascending order; room: how many values the words hold."""
+    """Rows as tuples of values in ascending order; room: how many values the words hold."""
 
     def __init__(self, columns, room):
         self.columns, self.room, self.rows = columns, room, []
@@ -91,15 +114,15 @@ class Set:
             return "refused"
         if not all(inside(v) for v in row):
             return "outside"
-        key = tuple(Fraction(*v) for v in row)
-        k = bisect_left(self.rows, key)
-        if k < len(self.rows) and self.rows[k] == key:
+        values = tuple(map(value_of, row))
+        k = bisect_left(self.rows, row_key(values), key=row_key)
+        if k < len(self.rows) and self.rows[k] == values:
             return f"there {k}"
         if count == ROWS:
             return "large"
         if (count + 1) * self.columns > self.room:
             return "refused"
-        insort(self.rows, key)
+        self.rows.insert(k, values)
         return f"new {k}"
 
     def aggregate(self, columns, count, function, column):
@@ -110,16 +133,20 @@ class Set:
             return head + f"{count}/1"
         if column in self.spoiled:
             return head + "outside"
-        values = [row[column] for row in self.rows[:count]]
-        if not values:
-            return head + "0/1"
+        values = [row[column] for row in self.rows[:count] if row[column] is not None]
         if function in (1, 4) and any(v.denominator != 1 for v in values):
             raise ValueError("sums are of whole columns")
-        result = [None, sum(values), min(values), max(values), sum(values) / len(values)][function]
-        return head + text(pair_of(Fraction(result)))
+        if function == 1:
+            return head + f"{sum(values)}/1"
+        result = [min(values), max(values), sum(values) / Fraction(len(values))][function - 2] if values else None
+        return head + text(pair_of(result))
 
     def lines(self):
         return [f"row {r} " + " ".join(text(pair_of(q)) for q in row) for r, row in enumerate(self.rows)]
+
+
+def row_key(row):
+    return [key_of(q) for q in row]
 
 
 def insert_line(s, row, count):
@@ -154,6 +181,22 @@ def ends():
         yield s.aggregate(2, 6, f, c)
 
 
+def absent_rows():
+    s = Set(2, 12)
+    none, zero = (0, 0), (0, 1)
+    for count, row in [(0, (zero, none)), (1, ((7, 1), (-1, 2))), (2, (none, (3, 1))), (3, ((-5, 1), none)),
+                       (4, (none, none)), (5, (none, none)), (5, ((1, 0), none)), (5, ((4, 1), none))]:
+        yield insert_line(s, row, count)
+    yield ""
+    yield from s.lines()
+    for f in range(5):
+        yield s.aggregate(2, 6, f, 0)
+    for f in (2, 3):
+        yield s.aggregate(2, 6, f, 1)
+    for f in range(5):
+        yield s.aggregate(2, 2, f, 0)
+
+
 def draws():
     x = 1
     for _ in range(600):
@@ -185,6 +228,6 @@ def drawn():
 
 if __name__ == "__main__":
     help_first(__doc__)
-    for part in (orders(), averages(), divisors(), ends(), drawn()):
+    for part in (orders(), absents(), averages(), empties(), divisors(), ends(), absent_rows(), drawn()):
         for line in part:
             print(line)

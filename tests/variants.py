@@ -35,6 +35,9 @@ def constants():
     yield "most_words_low", TABLES, "MOST_WORDS = 16_384", "MOST_WORDS = 16_376"
 
 
+ABSENT = "if left is None or right is None:\n        "
+ABSENT_MEETS_NONE = f"{ABSENT}return False"
+
 OTHERS = [
     # data and index
     ("words_after_allowed", TABLES, "return len(data) == 1", "return len(data) >= 1"),
@@ -90,7 +93,8 @@ OTHERS = [
     ("empty_groups_dropped", MATCHING, "if all(self.holds(condition, match, child_sets)",
      "if all(child_sets.values()) and all(self.holds(condition, match, child_sets)"),
     ("equal_values_removed", MATCHING,
-     "values = [row[column] for row in rows]", "values = list({row[column] for row in rows})"),
+     "values = [row[column] for row in rows if row[column] is not None]",
+     "values = list({row[column] for row in rows} - {None})"),
     ("average_rounded", MATCHING, "sum(all_) / len(all_)", "Fraction(sum(all_) // len(all_))"),
     ("fixed_not_compared", MATCHING, "isinstance(entry, Fixed) and binding", "False and binding"),
     ("variable_rebound", MATCHING, "isinstance(entry, Variable) and wider.setdefault(entry.number, value) != value",
@@ -113,6 +117,24 @@ OTHERS = [
      "                   if all(self.holds(c, match, sets) for c in self.blocks[number].conditions))"),
     ("large_by_matches", MATCHING, "for match in self.passing(number, binding)\n                   for child",
      "for match in self.matches(number, binding)\n                   for child"),
+    # absent values
+    ("absent_equals_absent", MATCHING, ABSENT_MEETS_NONE, f"{ABSENT}return left is right and operator in (0, 3, 5)"),
+    ("absent_is_unequal", MATCHING, ABSENT_MEETS_NONE, f"{ABSENT}return left is not right and operator == 1"),
+    ("absent_is_less", MATCHING, ABSENT_MEETS_NONE, f"{ABSENT}left, right = row_key([left]), row_key([right])"),
+    ("absent_compared_as_0", MATCHING, ABSENT_MEETS_NONE, f"{ABSENT}left, right = left or 0, right or 0"),
+    ("absent_on_the_right_compared", MATCHING, "if left is None or right is None:\n",
+     "if right is None and left is not None:\n        right = 0\n    if left is None:\n"),
+    ("absent_last", MATCHING, "[(0,) if value is None", "[(2,) if value is None"),
+    ("absent_ordered_as_0", MATCHING, "(0,) if value is None else (1, value)", "(1, value or Fraction(0))"),
+    ("average_over_all_rows", MATCHING, "sum(all_) / len(all_)", "sum(all_) / len(rows)"),
+    ("count_passes_over_absent", MATCHING, "return Fraction(len(rows))",
+     "return Fraction(len([row for row in rows if None not in row]))"),
+    ("sum_of_none_absent", MATCHING,
+     "return sum(values, Fraction(0))", "return sum(values, Fraction(0)) if values else None"),
+    ("others_of_none_0", MATCHING, "if not values:\n        return None", "if not values:\n        return Fraction(0)"),
+    ("absent_not_passed_over", MATCHING, "if not values:", "if len(values) < len(rows) or not rows:"),
+    ("absent_in_words_0_and_1", EVALUATOR, "return (0, 0) if value is None", "return (0, 1) if value is None"),
+    ("absent_printed_in_full", EVALUATOR, '{0: "-", 1:', "{1:"),
     # trials
     ("file_kept", TRIALS, """firsts = {}
         for match in passing:
@@ -151,12 +173,12 @@ OTHERS = [
      "return words + before[len(words):]", "return words + [0] * len(before[len(words):])"),
     ("no_columns_without_rows", EVALUATOR,
      "return Answer(0, len(rows), columns,", "return Answer(0, len(rows), columns if rows else 0,"),
-    ("rows_as_text", EVALUATOR,
-     "for row in sorted(rows)]", "for row in sorted(rows, key=lambda row: list(map(str, row)))]"),
+    ("rows_as_text", EVALUATOR, "sorted(rows, key=row_key)]", "sorted(rows, key=lambda row: list(map(str, row)))]"),
     ("rows_by_numerators", EVALUATOR,
-     "for row in sorted(rows)]", "for row in sorted(rows, key=lambda row: [value.numerator for value in row])]"),
-    ("rows_last_column_first", EVALUATOR, "for row in sorted(rows)]", "for row in sorted(rows, key=lambda row: row[::-1])]"),
-    ("rows_descend", EVALUATOR, "for row in sorted(rows)]", "for row in sorted(rows, reverse=True)]"),
+     "sorted(rows, key=row_key)]", "sorted(rows, key=lambda row: [pair_of(value)[0] for value in row])]"),
+    ("rows_last_column_first", EVALUATOR,
+     "sorted(rows, key=row_key)]", "sorted(rows, key=lambda row: row_key(row)[::-1])]"),
+    ("rows_descend", EVALUATOR, "sorted(rows, key=row_key)]", "sorted(rows, key=row_key, reverse=True)]"),
     ("index_short_before_absent", EVALUATOR, "    tables = tables_of(data)\n    if not 0 <= table",
      "    tables = tables_of(data)\n    if not before:\n        return 2, before\n    if not 0 <= table"),
     ("bytes_after_the_plan", EVALUATOR, "if at != len(job) or len(data)", "if len(data)"),

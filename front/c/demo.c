@@ -42,6 +42,16 @@ static unsigned run(const int32_t *words, size_t words_len, const uint8_t *quest
                    figures, ABE_FIGURES_WORDS);
 }
 
+/* A value: a minus sign where it is absent, the numerator alone where it is whole. */
+static void print_value(int64_t n, int64_t d) {
+    if (ABE_IS_ABSENT(n, d)) {
+        putchar('-');
+        return;
+    }
+    printf("%" PRId64, n);
+    if (d != 1) printf("/%" PRId64, d);
+}
+
 static void print_answer(unsigned number) {
     if (number != ABE_OK) {
         printf("no %u\n", number);
@@ -52,15 +62,15 @@ static void print_answer(unsigned number) {
     for (uint64_t r = 0; r < rows; r++)
         for (uint64_t c = 0; c < columns; c++) {
             int64_t n = result[ABE_NUMERATOR(r, c, columns)], d = result[ABE_DENOMINATOR(r, c, columns)];
-            printf("%" PRId64, n);
-            if (d != 1) printf("/%" PRId64, d);
+            print_value(n, d);
             putchar(c + 1 < columns ? ' ' : '\n');
         }
 }
 
-/* Whether two values are less (-1), equal (0) or more (1), by cross products: these are below 2^52 in size, since no
- * numerator passes 16,777,216,000,000 and no denominator 256. */
+/* Whether two values are less (-1), equal (0) or more (1): absent is less than every other value, and else cross products
+ * tell. These are below 2^52 in size, since no numerator passes 16,777,216,000,000 and no denominator 256. */
 static int order(int64_t n, int64_t d, int64_t m, int64_t e) {
+    if (ABE_IS_ABSENT(n, d) || ABE_IS_ABSENT(m, e)) return (d > 0) - (e > 0);
     return (n * e > m * d) - (n * e < m * d);
 }
 
@@ -115,7 +125,7 @@ int main(void) {
     const size_t question_len = question_j(question, 0), plan_len = plan_j(plan, ABE_PATH_MERGING, 1);
     print_answer(run(words, words_len, question, question_len, plan, plan_len, budget, ABE_SETS_WORDS));
 
-    /* The rows ascend by exact value, first column first: 905 before 1823/2. */
+    /* The rows ascend by exact value, first column first: absent first, and 905 before 1823/2. */
     printf("average first: ");
     question_j(question, 1);
     print_answer(run(words, words_len, question, question_len, plan, plan_len, budget, ABE_SETS_WORDS));
@@ -125,7 +135,7 @@ int main(void) {
     int64_t before[ABE_RESULT_WORDS];
     memcpy(before, result, sizeof before);
     for (unsigned way = ABE_PATH_FILE; way <= ABE_PATH_MERGING; way++) {
-        memset(result, 0, 12 * sizeof result[0]);
+        memset(result, 1, 12 * sizeof result[0]);
         plan_j(plan, way, way == ABE_PATH_FILE ? 0 : 1);
         run(words, words_len, question, question_len, plan, plan_len, budget, ABE_SETS_WORDS);
         printf("path %u: %" PRIu64 " trials, %s words\n", way, figures[ABE_TRIALS],

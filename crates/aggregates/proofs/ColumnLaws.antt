@@ -2,13 +2,13 @@
 use Prim.Native.Nat.{ℕ, zero, suc, _+_, _*_, _-_, _<_, _≤_}
 use native.Mathlib.Omega.{arith}
 use native.Mathlib.Nat.{mul-le-mul-right}
-use mathlib.Core.Path.{_≡_, refl, sym, ap, subst}
-use mathlib.Core.Bool.{Bool, true, false}
+use mathlib.Core.Path.{_≡_, refl, sym, _∙_, ap, subst}
+use mathlib.Core.Bool.{Bool, true, false, not}
 use mathlib.Core.List.{List, [], _∷_}
 use lib.Dec.{T, leb, ltb, leb→le, ltb→lt}
 use lib.ListN.{length}
 use lib.IntN.{ℤ}
-use borrow.Author.Tests.{le-leb, lt-leb, lt-ltb, le-ltb}
+use borrow.Author.Tests.{le-leb, lt-leb, lt-ltb, le-ltb, not-true, not-false}
 use Rattle.value.specs.declared.Value.{Value}
 use Rattle.value.proofs.Laws.{both}
 use Rattle.aggregates.specs.declared.Aggregate.the-variants as aggregate
@@ -95,3 +95,18 @@ module _ (f c n count : ℕ) (l : List ℤ) where
       → aggregateIn f c n count l ≡ overWords f (columnIn n l c count)
   unfolding aggregateIn
   reading e = simp e
+
+-- what the test of the arguments gives, b being its answer and w the room that it was told
+module _ (f c n count : ℕ) (l : List ℤ) (b : Bool) (w : ℕ) (told : w ≡ roomOf (length l))
+    (can : b ≡ readable n count w c) where
+  here : readable n count (roomOf (length l)) c ≡ b
+  here = sym (can ∙ ap (λ w. readable n count w c) told)
+
+  pub refused-here : not b ≡ true → aggregate.Refused ≡ aggregateIn f c n count l
+  refused-here e = sym (unread f c n count l (here ∙ not-true b e))
+
+  pub readable-here : not b ≡ false → Readable n count (roomOf (length l)) c
+  readable-here e = can-be-read n count (roomOf (length l)) c (here ∙ not-false b e)
+
+  pub read-here : not b ≡ false → overWords f (columnIn n l c count) ≡ aggregateIn f c n count l
+  read-here e = sym (reading f c n count l (here ∙ not-false b e))

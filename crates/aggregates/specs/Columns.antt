@@ -1,7 +1,8 @@
 -- Aggregates of a column of a set in words, for every argument. Where the words encode a set of the model, they are the
 -- model's (proofs/Aggregating.antt: aggregated).
 --   columnIn n l j k       the values at place j and every n places further, k of them
---   aggregateOfColumn f xs the model's function f (0 count, 1 sum, 2 min, 3 max, 4 and above ave) of a column's values
+--   aggregateOfColumn f xs the model's function f (0 count, 1 sum, 2 min, 3 max, 4 and above ave) of a column's values,
+--                          from 1 on of those that are present
 --   overWords f vs         that of values in words, where all are inside the bounds of exact order; the count of any
 --   readable n count w c   at most 4 columns and 256 rows, w places for them, and c one of the columns
 --   aggregateIn f c n count l   function f of column c of the set
@@ -11,7 +12,7 @@ use mathlib.Core.List.{List, [], _∷_, map}
 use lib.Dec.{leb, ltb}
 use lib.ListN.{length}
 use lib.IntN.{ℤ, pos}
-use Rattle.model.specs.Aggregate.{sumOf, minOf, maxOf, aveOf}
+use Rattle.model.specs.Aggregate.{presentOf, sumOf, minOf, maxOf, aveOf}
 use Rattle.model.specs.Lists.{all}
 use Rattle.model.specs.Value as model
 use Rattle.value.specs.declared.Value.{Value}
@@ -26,10 +27,10 @@ columnIn n l j (suc k) = valueAt l j ∷ columnIn n l (j + n) k
 
 unfoldable pub aggregateOfColumn : ℕ → List model.Value → model.Value
 aggregateOfColumn zero xs = model.whole (pos (length xs))
-aggregateOfColumn (suc zero) xs = sumOf xs
-aggregateOfColumn (suc (suc zero)) xs = minOf xs
-aggregateOfColumn (suc (suc (suc zero))) xs = maxOf xs
-aggregateOfColumn (suc (suc (suc (suc f)))) xs = aveOf xs
+aggregateOfColumn (suc zero) xs = sumOf (presentOf xs)
+aggregateOfColumn (suc (suc zero)) xs = minOf (presentOf xs)
+aggregateOfColumn (suc (suc (suc zero))) xs = maxOf (presentOf xs)
+aggregateOfColumn (suc (suc (suc (suc f)))) xs = aveOf (presentOf xs)
 
 unfoldable pub overWords : ℕ → List Value → Aggregate
 overWords zero vs = Of (inWords (aggregateOfColumn zero (map exact vs)))

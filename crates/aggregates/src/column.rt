@@ -8,28 +8,40 @@ ghost use mathlib.Core.Path.{_≡_};
 ghost use Prim.Native.Nat.{_*_, _<_, _≤_};
 ghost use lib.Dec.{T};
 ghost use lib.ListN.{length};
-ghost use lib.IntN.{natAbs, _+ℤ_};
+ghost use lib.IntN.{natAbs};
 ghost use Rattle.value.specs.Exact.{insideOf};
 ghost use Rattle.words.specs.Words.{roomOf};
 ghost use Rattle.aggregates.specs.Columns.{columnIn, readable};
-ghost use Rattle.aggregates.specs.Folds.{totalOf, isLess, betterOf, extremeOf, sumIn, averageIn};
+ghost use Rattle.aggregates.specs.Folds.{countedOf, plusOf, totalOf, isLess, chosenOf, betterOf};
+ghost use Rattle.aggregates.specs.Folds.{extremeOf, sumIn, averageIn};
 
-// A sum and one value more.
+// One for a value that is present, none for an absent one.
+pub(crate) fn counted(present: bool) -> u64
+    ensures { λ r. ⌜ r ≡ countedOf present ⌝ }
+{
+    if present { 1 } else { 0 }
+}
+
+// A sum and one value more. An absent one adds its numerator, which is 0, and is not counted.
 pub(crate) fn plus(t: Sum, v: Value) -> Sum
-    requires { ⌜ (natAbs (t .value) ≤ 256000000000000000) × T (insideOf v) ⌝ }
-    ensures { λ r. ⌜ r .value ≡ t .value +ℤ v .num ⌝ }
+    requires { ⌜ (natAbs (t .value) ≤ 256000000000000000) × (t .present ≤ 256) × T (insideOf v) ⌝ }
+    ensures { λ r. ⌜ r ≡ plusOf t v ⌝ }
 {
     Sum {
         value: t.value + v.num,
+        present: t.present + counted(value::present(v)),
     }
 }
 
-// The sum of the numerators of a column.
+// The sum of the values of a column, and how many are there.
 pub(crate) fn sum_column(words: &[i64], n: usize, count: usize, c: usize) -> Total
     requires { ⌜ (n ≤ 4) × (count ≤ 256) × (c < n) × (count * n ≤ roomOf (length (now words))) ⌝ }
     ensures { λ r. ⌜ r ≡ totalOf (columnIn n (now (words .entry)) c count) ⌝ }
 {
-    let mut t = Sum { value: 0 };
+    let mut t = Sum {
+        value: 0,
+        present: 0,
+    };
     let mut j: usize = c;
     let mut r: usize = 0;
     while r < count {
@@ -41,7 +53,7 @@ pub(crate) fn sum_column(words: &[i64], n: usize, count: usize, c: usize) -> Tot
         j += n;
         r += 1;
     }
-    Total::Of(t.value)
+    Total::Of(t)
 }
 
 // The first is the lesser value.
@@ -57,8 +69,8 @@ pub(crate) fn is_less(o: Compared) -> bool
 }
 
 // The greater or the lesser of two values.
-pub(crate) fn better(x: Value, y: Value, greatest: bool) -> Value
-    ensures { λ r. ⌜ r ≡ betterOf greatest x y ⌝ }
+pub(crate) fn chosen(x: Value, y: Value, greatest: bool) -> Value
+    ensures { λ r. ⌜ r ≡ chosenOf greatest x y ⌝ }
 {
     if greatest {
         if is_less(value::order(x, y)) {
@@ -72,18 +84,27 @@ pub(crate) fn better(x: Value, y: Value, greatest: bool) -> Value
     x
 }
 
-// The greatest or the least value of a column of at least one row.
+// The greater or the lesser of two values; the other one where one is absent.
+pub(crate) fn better(x: Value, y: Value, greatest: bool) -> Value
+    ensures { λ r. ⌜ r ≡ betterOf greatest x y ⌝ }
+{
+    if !value::present(y) {
+        return x;
+    }
+    if !value::present(x) {
+        return y;
+    }
+    chosen(x, y, greatest)
+}
+
+// The greatest or the least value of a column; absent where no value is there.
 pub(crate) fn extreme(words: &[i64], n: usize, count: usize, c: usize, greatest: bool) -> Aggregate
-    requires { ⌜ (n ≤ 4) × (count ≤ 256) × (c < n) × (0 < count) × (count * n ≤ roomOf (length (now words))) ⌝ }
+    requires { ⌜ (n ≤ 4) × (count ≤ 256) × (c < n) × (count * n ≤ roomOf (length (now words))) ⌝ }
     ensures { λ r. ⌜ r ≡ extremeOf greatest (columnIn n (now (words .entry)) c count) ⌝ }
 {
-    let first = words::read(words, c);
-    if !value::inside(first) {
-        return Aggregate::Outside;
-    }
-    let mut best = first;
-    let mut j: usize = c + n;
-    let mut r: usize = 1;
+    let mut best = value::absent();
+    let mut j: usize = c;
+    let mut r: usize = 0;
     while r < count {
         let v = words::read(words, j);
         if !value::inside(v) {
@@ -101,18 +122,21 @@ pub(crate) fn as_sum(t: Total) -> Aggregate
     ensures { λ r. ⌜ r ≡ sumIn t ⌝ }
 {
     match t {
-        Total::Of(s) => Aggregate::Of(Value { num: s, den: 1 }),
+        Total::Of(s) => Aggregate::Of(Value {
+            num: s.value,
+            den: 1,
+        }),
         Total::Outside => Aggregate::Outside,
     }
 }
 
-// A sum over a count as an aggregate.
-pub(crate) fn as_average(t: Total, count: usize) -> Aggregate
-    ensures { λ r. ⌜ r ≡ averageIn t count ⌝ }
+// A sum over how many values are there, as an aggregate.
+pub(crate) fn as_average(t: Total) -> Aggregate
+    ensures { λ r. ⌜ r ≡ averageIn t ⌝ }
 {
     match t {
         Total::Of(s) => {
-            let m = value::average(s, count as u64);
+            let m = value::average(s.value, s.present);
             match m {
                 value::Mean::Of(v) => Aggregate::Of(v),
                 value::Mean::Outside => Aggregate::Outside,

@@ -1,5 +1,6 @@
 // Aggregates of a column of a set of rows in lent words (01, "Matching": "row by row"). The rows stand one after the
-// other, as the crate `words` has them; they need not ascend. Of no rows every aggregate is zero.
+// other, as the crate `words` has them; they need not ascend. Sum, min, max and ave pass over absent values (No. 3); of
+// none that remains the sum is zero and the others are absent. Count counts rows.
 //
 // Refused: over 4 columns, over 256 rows, a column past the last, words too short for the rows. A value outside the
 // bounds of exact order is answered Outside.
@@ -9,14 +10,15 @@ use value::Value;
 ghost use mathlib.Core.Path.{_≡_};
 ghost use Rattle.aggregates.specs.Columns.{aggregateIn};
 
-// A sum so far.
+// The sum so far of a column, and how many of its values are there.
 pub(crate) struct Sum {
     pub(crate) value: i64,
+    pub(crate) present: u64,
 }
 
 // The sum of a column.
 pub(crate) enum Total {
-    Of(i64),
+    Of(Sum),
     Outside,
 }
 
@@ -40,9 +42,6 @@ pub fn aggregate_of(words: &[i64], n: usize, count: usize, f: u8, c: usize) -> A
             den: 1,
         });
     }
-    if count == 0 {
-        return Aggregate::Of(value::empty_of(f));
-    }
     if f == 1 {
         return column::as_sum(column::sum_column(words, n, count, c));
     }
@@ -52,5 +51,5 @@ pub fn aggregate_of(words: &[i64], n: usize, count: usize, f: u8, c: usize) -> A
     if f == 3 {
         return column::extreme(words, n, count, c, true);
     }
-    column::as_average(column::sum_column(words, n, count, c), count)
+    column::as_average(column::sum_column(words, n, count, c))
 }

@@ -55,7 +55,8 @@ pub(crate) fn marked(v: Value) -> bool
     v.num >= 1
 }
 
-// The value of an aggregate, 0/0 where there is none.
+// The value of an aggregate; 0/0, which is absent, where there is none. In a run every aggregate asked for has a value
+// (aggregates: proofs/FairValues.antt, aggregate-told).
 pub(crate) fn told_by(g: Aggregate) -> Value
     ensures { λ r. ⌜ r ≡ told g ⌝ }
 {

@@ -12,7 +12,8 @@ use lib.IntN.{ℤ, pos, natAbs}
 use lib.ListN.{length, getD}
 use lib.Seq.{append-snoc}
 use Rattle.model.specs.Listing.{digits, integerText, noLine}
-use Rattle.job.specs.Texts.{Wrote, isOne, ratioText, gapText, fieldText, fieldsText, lineText, linesText, okText}
+use Rattle.job.specs.Texts.{Wrote, isZero, isOne, ratioText, gapText, fieldText, fieldsText, lineText, linesText}
+use Rattle.job.specs.Texts.{okText}
 use Rattle.job.specs.Texts.{shownRows}
 use Rattle.job.proofs.WroteLaws.{wrote-as, wrote-then, wrote-more, wrote-length}
 
@@ -27,14 +28,21 @@ module _ {at r : ℕ} {l m : List ℕ} (x : ℤ) (n : ℕ) (e : n ≡ natAbs x) 
   pub integer-plain : integerText x ≡ digits (natAbs x) → Wrote at (digits n) l m r → Wrote at (integerText x) l m r
   integer-plain t w = wrote-as w (integerText x) (ap digits e ∙ sym t)
 
-module _ {at r : ℕ} {l m : List ℕ} (n d : ℤ) (t : Bool) (is : t ≡ isOne d) (w : Wrote at (integerText n) l m r) where
+-- a value: absent, whole or a ratio
+pub ratio-absent : {at r : ℕ} {l m : List ℕ} (n d : ℤ) → isZero d ≡ true → Wrote at (45 ∷ []) l m r
+    → Wrote at (ratioText n d) l m r
+unfolding ratioText
+ratio-absent n d e w = rw e w
+
+module _ {at r : ℕ} {l m : List ℕ} (n d : ℤ) (some : isZero d ≡ false) (t : Bool) (is : t ≡ isOne d)
+    (w : Wrote at (integerText n) l m r) where
   ratio-whole-text : isOne d ≡ true → ratioText n d ≡ integerText n
   unfolding ratioText
-  ratio-whole-text e = rw e refl
+  ratio-whole-text e = rw (some, e) refl
 
   ratio-over-text : isOne d ≡ false → ratioText n d ≡ integerText n ++ (47 ∷ integerText d)
   unfolding ratioText
-  ratio-over-text e = rw e refl
+  ratio-over-text e = rw (some, e) refl
 
   pub ratio-whole : t ≡ true → Wrote at (ratioText n d) l m r
   ratio-whole e = wrote-as w (ratioText n d) (sym (ratio-whole-text (sym is ∙ e)))

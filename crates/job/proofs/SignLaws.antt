@@ -1,4 +1,4 @@
--- Signed words: two's complement of 32 bits, the size of a 64-bit number, and the test that it is 1.
+-- Signed words: two's complement of 32 bits, the size of a 64-bit number, and the tests that it is 0 or 1.
 use Prim.Native.Nat.{ℕ, zero, suc, _+_, _-_, _<_, _≤_, _^_}
 use native.Mathlib.Nat.{lt-trans}
 use native.Mathlib.Omega.{arith}
@@ -13,7 +13,7 @@ use mir.Facts.{toZ-ofZ, toZ-pos}
 use mir.Syntax.{w32, w64}
 use mir.Val.{toZ, ofZ, SFits, Fits}
 use Rattle.model.specs.Listing.{signed32, digits, integerText}
-use Rattle.job.specs.Texts.{isOne}
+use Rattle.job.specs.Texts.{isZero, isOne}
 
 -- ---- two's complement
 minus : (k : ℕ) → negsuc 0 -ℤ pos k ≡ negsuc k
@@ -120,6 +120,13 @@ module _ (x : ℤ) (f : SFits w64 x) where
       go : (x : ℤ) → ltZ x (pos 0) ≡ false → integerText x ≡ digits (natAbs x)
       go (pos n) e = plain-text n
       go (negsuc n) e = absurd (subst T e tt)
+
+  pub zero-is : eqb (ofZ w64 x) 0 ≡ isZero x
+  zero-is = go x f
+    where
+      go : (x : ℤ) → SFits w64 x → eqb (ofZ w64 x) 0 ≡ isZero x
+      go (pos n) f = refl
+      go (negsuc n) f = ne-eqb (2 ^ 64 - suc n) 0 (λ e. let b = f .sfits in omega arith)
 
   pub one-is : eqb (ofZ w64 x) 1 ≡ isOne x
   one-is = go x f

@@ -2,8 +2,8 @@
 -- the model's text is proved (proofs/TextLaws: `text-told`).
 --   Wrote at t l m r    t put at place `at` of l, as far as there is room, leaves m; r is the place after it, no
 --                       further than the end
---   isOne x             x is 1
---   ratioText n d       n alone where d is 1, else n/d
+--   isZero x            x is 0; isOne x: x is 1
+--   ratioText n d       a minus sign where d is 0, n alone where d is 1, else n/d
 --   fieldText ws p      the value at place p: its two words
 --   gapText j           the space before field j, none before the first
 --   fieldsText ws p n   the first n fields of the row that begins at place p; lineText ws p n: with its newline
@@ -26,12 +26,16 @@ pub record Wrote (at : ℕ) (t l m : List ℕ) (r : ℕ) : Type 0 where
   pub bytes : m ≡ sets l at t
   pub place : r ≡ min (at + length t) (length l)
 
+abbrev pub isZero : ℤ → Bool
+isZero (pos n) = eqb n 0
+isZero (negsuc n) = false
+
 abbrev pub isOne : ℤ → Bool
 isOne (pos n) = eqb n 1
 isOne (negsuc n) = false
 
 unfoldable pub ratioText : ℤ → ℤ → List ℕ
-ratioText n d = cond (isOne d) (integerText n) (integerText n ++ (47 ∷ integerText d))
+ratioText n d = cond (isZero d) (45 ∷ []) (cond (isOne d) (integerText n) (integerText n ++ (47 ∷ integerText d)))
 
 unfoldable pub fieldText : List ℤ → ℕ → List ℕ
 fieldText ws p = ratioText (getD ws (2 * p) (pos 0)) (getD ws (2 * p + 1) (pos 0))

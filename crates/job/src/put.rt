@@ -6,7 +6,7 @@ ghost use Prim.Native.Nat.{_+_, _*_, _/_, _<_, _≤_};
 ghost use lib.IntN.{natAbs, pos};
 ghost use lib.ListN.{length, getD};
 ghost use Rattle.model.specs.Listing.{digits, integerText, noLine};
-ghost use Rattle.job.specs.Texts.{Wrote, isOne, ratioText, gapText, fieldText, lineText, linesText};
+ghost use Rattle.job.specs.Texts.{Wrote, isZero, isOne, ratioText, gapText, fieldText, lineText, linesText};
 ghost use Rattle.job.specs.Texts.{okText};
 
 // One byte.
@@ -77,17 +77,26 @@ fn integer(out: &mut [u8], at: usize, x: i64) -> usize
     number(out, at, n)
 }
 
+fn is_zero(x: i64) -> bool
+    ensures { λ r. ⌜ r ≡ isZero x ⌝ }
+{
+    x == 0
+}
+
 fn is_one(x: i64) -> bool
     ensures { λ r. ⌜ r ≡ isOne x ⌝ }
 {
     x == 1
 }
 
-// A value: its numerator alone where the denominator is 1.
+// A value: its numerator alone where the denominator is 1, a minus sign alone where it is absent.
 fn ratio(out: &mut [u8], at: usize, num: i64, den: i64) -> usize
     requires { ⌜ at ≤ length (now out) ⌝ }
     ensures { λ r. ⌜ Wrote at (ratioText num den) (now (out .entry)) (now (out .exit)) r ⌝ }
 {
+    if is_zero(den) {
+        return byte(out, at, b'-');
+    }
     let next = integer(out, at, num);
     if is_one(den) {
         return next;

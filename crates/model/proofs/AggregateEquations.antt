@@ -1,14 +1,32 @@
 -- The equations of specs/Aggregate, one for each case, and its recursions over `_++_`.
-use Prim.Native.Nat.{ℕ, suc}
+use Prim.Native.Nat.{ℕ, zero, suc}
 use mathlib.Core.Bool.{true, false}
 use mathlib.Core.List.{List, [], _∷_, _++_}
 use mathlib.Core.Path.{_≡_, refl, sym, _∙_, ap}
 use lib.IntN.{pos, _+ℤ_, +ℤ-idl, +ℤ-assoc}
 use lib.ListN.{length}
-use Rattle.model.specs.Aggregate.{columnOf, total, lesser, greater, leastFrom, greatestFrom, sumOf, minOf}
-use Rattle.model.specs.Aggregate.{maxOf, aveOf, aggregateOf}
+use Rattle.model.specs.Aggregate.{columnOf, presentOf, total, lesser, greater, leastFrom, greatestFrom, sumOf}
+use Rattle.model.specs.Aggregate.{minOf, maxOf, aveOf, aggregateOf}
+use Rattle.model.specs.Lists.{filter}
 use Rattle.model.specs.RowSet.{Row}
-use Rattle.model.specs.Value.{Value, whole, zeroValue, ratio, order, isLt}
+use Rattle.model.specs.Value.{Value, whole, absent, present, ratio, order, isLt}
+use Rattle.model.proofs.Tests.{filter-append}
+
+pub presentOf-nil : presentOf [] ≡ []
+unfolding presentOf filter
+presentOf-nil = refl
+
+pub presentOf-kept : (x : Value) (xs : List Value) → present x ≡ true → presentOf (x ∷ xs) ≡ x ∷ presentOf xs
+unfolding presentOf filter
+presentOf-kept x xs e = rw (e, filter)
+
+pub presentOf-passed : (x : Value) (xs : List Value) → present x ≡ false → presentOf (x ∷ xs) ≡ presentOf xs
+unfolding presentOf filter
+presentOf-passed x xs e = rw (e, filter)
+
+pub presentOf-append : (l r : List Value) → presentOf (l ++ r) ≡ presentOf l ++ presentOf r
+unfolding presentOf
+presentOf-append l r = filter-append present l r
 
 pub total-nil : total [] ≡ pos 0
 unfolding total
@@ -69,7 +87,7 @@ pub sumOf-is : (xs : List Value) → sumOf xs ≡ whole (total xs)
 unfolding sumOf
 sumOf-is xs = refl
 
-pub minOf-nil : minOf [] ≡ zeroValue
+pub minOf-nil : minOf [] ≡ absent
 unfolding minOf
 minOf-nil = refl
 
@@ -77,7 +95,7 @@ pub minOf-cons : (x : Value) (xs : List Value) → minOf (x ∷ xs) ≡ leastFro
 unfolding minOf
 minOf-cons x xs = refl
 
-pub maxOf-nil : maxOf [] ≡ zeroValue
+pub maxOf-nil : maxOf [] ≡ absent
 unfolding maxOf
 maxOf-nil = refl
 
@@ -85,7 +103,7 @@ pub maxOf-cons : (x : Value) (xs : List Value) → maxOf (x ∷ xs) ≡ greatest
 unfolding maxOf
 maxOf-cons x xs = refl
 
-pub aveOf-nil : aveOf [] ≡ zeroValue
+pub aveOf-nil : aveOf [] ≡ absent
 unfolding aveOf
 aveOf-nil = refl
 
@@ -97,19 +115,20 @@ pub aggregateOf-count : (c : ℕ) (rs : List Row) → aggregateOf 0 c rs ≡ who
 unfolding aggregateOf
 aggregateOf-count c rs = refl
 
-pub aggregateOf-sum : (c : ℕ) (rs : List Row) → aggregateOf 1 c rs ≡ sumOf (columnOf c rs)
+pub aggregateOf-sum : (c : ℕ) (rs : List Row) → aggregateOf 1 c rs ≡ sumOf (presentOf (columnOf c rs))
 unfolding aggregateOf
 aggregateOf-sum c rs = refl
 
-pub aggregateOf-min : (c : ℕ) (rs : List Row) → aggregateOf 2 c rs ≡ minOf (columnOf c rs)
+pub aggregateOf-min : (c : ℕ) (rs : List Row) → aggregateOf 2 c rs ≡ minOf (presentOf (columnOf c rs))
 unfolding aggregateOf
 aggregateOf-min c rs = refl
 
-pub aggregateOf-max : (c : ℕ) (rs : List Row) → aggregateOf 3 c rs ≡ maxOf (columnOf c rs)
+pub aggregateOf-max : (c : ℕ) (rs : List Row) → aggregateOf 3 c rs ≡ maxOf (presentOf (columnOf c rs))
 unfolding aggregateOf
 aggregateOf-max c rs = refl
 
 -- 4, and every number above it
-pub aggregateOf-ave : (f c : ℕ) (rs : List Row) → aggregateOf (suc (suc (suc (suc f)))) c rs ≡ aveOf (columnOf c rs)
+pub aggregateOf-ave : (f c : ℕ) (rs : List Row) → aggregateOf (suc (suc (suc (suc f)))) c rs
+    ≡ aveOf (presentOf (columnOf c rs))
 unfolding aggregateOf
 aggregateOf-ave f c rs = refl

@@ -13,22 +13,19 @@ use Rattle.model.specs.Plan.{pathIn}
 use Rattle.model.specs.PlanAgreement.{root, Accepted, TwoRuns, file-to-index, index-to-merging, OneChanged}
 use Rattle.model.specs.Records.{questionOf}
 use Rattle.model.specs.ResultOrder.{RowsAscend, AnyTwoAscend, SameWords}
+use Rattle.model.specs.AbsentValues.{Fits}
 use Rattle.model.specs.Scan.{unbound}
 use Rattle.model.specs.Scope.{levels}
-use Rattle.model.proofs.EvaluatedSizes.{Fits, evaluated-fits}
+use Rattle.model.proofs.AbsentValues.{values-fit}
 use Rattle.model.proofs.Examples.{enough, integers, dataJ, questionJ, planJ, rowsJ}
 use Rattle.model.proofs.Opens.{opens}
 use Rattle.model.proofs.PlansAgree.{plans-agree, change-never-raises}
-use Rattle.model.proofs.RefusalLaws.{Passes, accepted-passes}
 use Rattle.model.proofs.ResultOrder.{result-ascends, rows-between, plans-same-words, plans-same-result}
 use Rattle.model.proofs.ResultOrder.{plans-same-after}
 
 pub J-accepted : Accepted enough dataJ questionJ
 unfolding opens
 J-accepted = refl
-
-J-passes : Passes enough dataJ questionJ
-J-passes = accepted-passes enough dataJ questionJ J-accepted
 
 -- file for block 1 at budget 20, merging at budget 7
 pub J-plans : TwoRuns enough enough dataJ questionJ (planJ 0 0) (planJ 2 1) 20 7
@@ -105,10 +102,10 @@ J-changes = (
   change-never-raises dataJ questionJ (planJ 0 0) (planJ 1 1) to-index,
 )
 
--- every value of block 0's set is in bounds
+-- every value of block 0's set is in bounds or absent (No. 3)
 pub J-fits : All (λ w. All Fits w) (setOf levels dataJ (questionOf questionJ) 0 unbound)
 unfolding opens
-J-fits = evaluated-fits dataJ questionJ (J-passes .tables) (J-passes .question) tt levels 0 unbound root
+J-fits = values-fit enough dataJ questionJ J-accepted tt levels 0 unbound root
 
 -- the index on the pan of the samples, and on their Brix; both halves of the answer
 pub J-index : indexOf dataJ 1 2 ≡ 2 ∷ 3 ∷ 0 ∷ 1 ∷ []

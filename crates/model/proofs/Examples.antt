@@ -1,6 +1,6 @@
--- The paper's starred examples (01, "Trial boils"), from data words, question bytes and plan bytes to the answer and
--- the words written: one table, `starred`, and one theorem over it, `starred-right`. `further` has cases of the same
--- form for what the starred ones leave open.
+-- The paper's starred examples (01, "Trial boils", as No. 3 amends J's last line), from data words, question bytes and
+-- plan bytes to the answer and the words written: one table, `starred`, and one theorem over it, `starred-right`.
+-- `further` has cases of the same form for what the starred ones leave open.
 --   Example            data, question, plan, budget; the expected number, rows, columns, trials and written words
 --   computed e         what the definitions give for an example, with buffers just long enough; expected e: what it
 --                      states
@@ -72,7 +72,7 @@ example d qs ps budget a ws =
     record { words = d; question = qs; plan = ps; budget = budget; answer = a; written = integers ws }
 
 abbrev pub rowsJ : List ℕ
-rowsJ = 1 ∷ 1 ∷ 1823 ∷ 2 ∷ 2 ∷ 1 ∷ 905 ∷ 1 ∷ 3 ∷ 1 ∷ 0 ∷ 1 ∷ []
+rowsJ = 1 ∷ 1 ∷ 1823 ∷ 2 ∷ 2 ∷ 1 ∷ 905 ∷ 1 ∷ 3 ∷ 1 ∷ 0 ∷ 0 ∷ []
 
 -- the sum of the output columns of block 1: the value alone, or with the sample
 abbrev pub summed : List (List ℕ) → ℕ → List ℕ
@@ -89,7 +89,8 @@ noPans = integers (1 ∷ 1 ∷ 0 ∷ [])
 
 abbrev pub dropped : List ℕ
 dropped =
-    bk 255 ++ (row 0 (blank ∷ []) ++ (out (agg 0 1 0 ∷ []) ++ (bk 0 ++ (row 0 (var 0 ∷ []) ++ (out (var 0 ∷ []) ++ en)))))
+    bk 255 ++ (row 0 (blank ∷ []) ++
+    (out (agg 0 1 0 ∷ []) ++ (bk 0 ++ (row 0 (var 0 ∷ []) ++ (out (var 0 ∷ []) ++ en)))))
 
 abbrev pub billion : ℕ
 billion = 1000000000
@@ -104,7 +105,8 @@ starred =
     ∷ example dataJ questionJ (planJ 2 1) 8 (answers 0 3 2 8) rowsJ
     ∷ example dataJ questionJ (planJ 2 1) 7 (answers 12 0 0 7) []
     -- ave at least 911: pan 1 only; at least 912: no rows
-    ∷ example dataJ (askJ (cond 5 (agg 4 1 1) (const 911))) (planJ 2 1) billion (answers 0 1 2 8) (1 ∷ 1 ∷ 1823 ∷ 2 ∷ [])
+    ∷ example dataJ (askJ (cond 5 (agg 4 1 1) (const 911))) (planJ 2 1) billion (answers 0 1 2 8)
+    (1 ∷ 1 ∷ 1823 ∷ 2 ∷ [])
     ∷ example dataJ (askJ (cond 5 (agg 4 1 1) (const 912))) (planJ 2 1) billion (answers 0 0 2 8) []
     -- the sum of the value alone: 905 for pan 2; with the sample: 1,810
     ∷ example dataJ (summed (var 2 ∷ []) 0) (planJ 2 1) billion (answers 0 3 2 8)

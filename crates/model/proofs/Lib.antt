@@ -29,8 +29,10 @@ pub mod Opens
 pub mod ExampleBytes
 pub mod Examples
 pub mod MoreExamples
+pub mod AbsentExamples
 pub mod EvaluatedLaws
 pub mod EvaluatedSizes
+pub mod AbsentValues
 pub mod IndexLaws
 pub mod AnswerLaws
 pub mod BufferLaws

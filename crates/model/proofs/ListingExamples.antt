@@ -29,12 +29,12 @@ bytesJ = concatMap four ((2 ∷ 1 ∷ 4 ∷ 3 ∷ 4 ∷ []) ++ (pans ++ samples)
 abbrev pub jobJ : List ℕ
 jobJ = job bytesJ questionJ (planJ 2 1)
 
--- ok 3 2 8, 1 1823/2, 2 905, 3 0
+-- ok 3 2 8, 1 1823/2, 2 905, 3 -
 abbrev pub linesJ : List ℕ
 linesJ =
     (111 ∷ 107 ∷ 32 ∷ 51 ∷ 32 ∷ 50 ∷ 32 ∷ 56 ∷ 10 ∷ [])
     ++ ((49 ∷ 32 ∷ 49 ∷ 56 ∷ 50 ∷ 51 ∷ 47 ∷ 50 ∷ 10 ∷ [])
-    ++ ((50 ∷ 32 ∷ 57 ∷ 48 ∷ 53 ∷ 10 ∷ []) ++ (51 ∷ 32 ∷ 48 ∷ 10 ∷ [])))
+    ++ ((50 ∷ 32 ∷ 57 ∷ 48 ∷ 53 ∷ 10 ∷ []) ++ (51 ∷ 32 ∷ 45 ∷ 10 ∷ [])))
 
 -- a refusal's line: no, a space, the digits
 abbrev pub no : List ℕ → List ℕ

@@ -39,6 +39,15 @@ module _ {A : Type 0} where
   all-append P [] r a h = h
   all-append P (x ∷ xs) r a h = (a .0, all-append P xs r (a .1) h)
 
+pub all-filter : {A : Type 0} (Q : A → Type 0) (p : A → Bool) (l : List A) → All Q l → All Q (filter p l)
+unfolding filter
+all-filter Q p [] u = tt
+all-filter Q p (x ∷ xs) u = go (all-filter Q p xs (u .1)) (p x) refl
+  where
+    go : All Q (filter p xs) → (t : Bool) → p x ≡ t → All Q (filter p (x ∷ xs))
+    go r true e = rw (e, filter) (u .0, r)
+    go r false e = rw (e, filter) r
+
 pub all-map : {A B : Type 0} (P : B → Type 0) (f : A → B) (l : List A) → ((a : A) → P (f a)) → All P (map f l)
 all-map P f [] g = tt
 all-map P f (x ∷ xs) g = (g x, all-map P f xs g)

@@ -41,9 +41,10 @@ further =
     -- a plain condition: the child is evaluated for the two matches of pan 2 alone
     example dataJ (askJ (cond 0 (var 0) (const 2))) (planJ 0 0) billion (answers 0 1 2 12) (2 ∷ 1 ∷ 905 ∷ 1 ∷ [])
     -- a condition on an aggregate spares no evaluation
-    ∷ example dataJ (askJ (cond 2 (agg 4 1 1) (const 1))) (planJ 0 0) billion (answers 0 1 2 20) (3 ∷ 1 ∷ 0 ∷ 1 ∷ [])
+    ∷ example dataJ (askJ (cond 2 (agg 4 1 1) (const 911))) (planJ 0 0) billion (answers 0 1 2 20)
+    (2 ∷ 1 ∷ 905 ∷ 1 ∷ [])
     ∷ example equalValues questionJ (planJ 2 1) billion (answers 0 3 2 8)
-    (1 ∷ 1 ∷ 911 ∷ 1 ∷ 2 ∷ 1 ∷ 905 ∷ 1 ∷ 3 ∷ 1 ∷ 0 ∷ 1 ∷ [])
+    (1 ∷ 1 ∷ 911 ∷ 1 ∷ 2 ∷ 1 ∷ 905 ∷ 1 ∷ 3 ∷ 1 ∷ 0 ∷ 0 ∷ [])
     ∷ example halves (topJ [] (agg 4 1 1 ∷ []) ++ (eachJ (var 1 ∷ var 2 ∷ []) ++ en)) (planJ 1 1) billion
     (answers 0 1 1 8)
     (1 ∷ 2 ∷ [])

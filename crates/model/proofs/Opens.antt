@@ -1,6 +1,6 @@
 -- Every definition opened, so that closed examples compute: say `unfolding opens`.
 use Rattle.model.specs.Aggregate.{total, lesser, greater, leastFrom, greatestFrom, sumOf, minOf, maxOf, aveOf}
-use Rattle.model.specs.Aggregate.{aggregateOf}
+use Rattle.model.specs.Aggregate.{presentOf, aggregateOf}
 use Rattle.model.specs.Answer.{settled, ranTo, outcomeOf, answerOf, writtenOf, resultAfter, workAfter}
 use Rattle.model.specs.Checks.{countsFit, placed, blockThere, allThere, blockBound, allBound, ratioAt}
 use Rattle.model.specs.Format.{after, _>>=_, give, fail, only, times, byte, eight, number64, signed}
@@ -24,12 +24,13 @@ use Rattle.model.specs.Tables.{tables, columns, rows, cellsBefore, table
 use Rattle.model.specs.Tables.{tableRows, laidOut, inRange}
 use Rattle.model.specs.Trials.{wanted, rowsHaving, triedRows, fileTrials, ownTrials, wants, firsts, evaluatedAt}
 use Rattle.model.specs.Trials.{trialsIn, trials}
-use Rattle.model.specs.Value.{gcdIn, gcd, divZ, ratio, compareZ, equalZ, order, meets}
+use Rattle.model.specs.Value.{gcdIn, gcd, divZ, ratio, compareZ, equalZ, present, orderPresent, order, meets}
 
 unfoldable pub opens : Unit {0}
-unfolding all any filter sumOver overwrite range concatMap tables columns rows cellsBefore tableAt rowStep columnStep cell
-    tableRow tableRows laidOut inRange gcdIn gcd divZ ratio compareZ equalZ order meets lexicographic insert canon
-    rowWords setWords total lesser greater leastFrom greatestFrom sumOf minOf maxOf aveOf aggregateOf plain inRows
+unfolding all any filter sumOver overwrite range concatMap tables columns rows cellsBefore tableAt rowStep columnStep
+    cell tableRow tableRows laidOut inRange gcdIn gcd divZ ratio compareZ equalZ present orderPresent order meets
+    lexicographic insert canon rowWords setWords total lesser greater leastFrom greatestFrom sumOf minOf maxOf aveOf
+    presentOf aggregateOf plain inRows
     inConditions namesIn rowElements otherElements elements after _>>=_ give fail only times byte eight number64
     signed aggregateIs elementOf element relation condition output marked many one block ends question wellFormed
     questionOf owns refers within subtree ownedIn referredIn outside outsiders levelOf countsFit placed blockThere

@@ -5,7 +5,7 @@ use mathlib.Core.Path.{_≡_, refl, ap₂}
 use Rattle.model.specs.Lists.{All}
 use Rattle.model.specs.RowSet.{Row, lexicographic, orderRows}
 use Rattle.model.proofs.SetLaws.{Linear}
-use Rattle.model.proofs.ValueLaws.{Lowest, linearValue}
+use Rattle.model.proofs.ValueLaws.{Proper, linearValue}
 
 module _ {A : Type 0} (P : A → Type 0) (cmp : A → A → Ordering) (L : Linear P cmp) where
   abbrev lex : List A → List A → Ordering
@@ -77,8 +77,8 @@ module _ {A : Type 0} (P : A → Type 0) (cmp : A → A → Ordering) (L : Linea
   linear-lists = record { same = lex-same; self = lex-self; turn = lex-turn; chain = lex-chain }
 
 -- the order of rows
-abbrev pub LowestRow : Row → Type 0
-LowestRow = All Lowest
+abbrev pub ProperRow : Row → Type 0
+ProperRow = All Proper
 
-pub linearRows : Linear LowestRow orderRows
-linearRows = linear-lists Lowest _ linearValue
+pub linearRows : Linear ProperRow orderRows
+linearRows = linear-lists Proper _ linearValue

@@ -30,8 +30,8 @@ use Rattle.model.specs.declared.Answer.{Answer}
 use Rattle.model.proofs.AnswerLaws.{given-rows, Rows}
 use Rattle.model.proofs.BisectionLaws.{ascending-at, all-at}
 use Rattle.model.proofs.BufferLaws.{result-value, result-kept}
-use Rattle.model.proofs.CanonLaws.{set-ascending, set-lowest}
-use Rattle.model.proofs.OrderLaws.{LowestRow}
+use Rattle.model.proofs.CanonLaws.{set-ascending, set-proper}
+use Rattle.model.proofs.OrderLaws.{ProperRow}
 use Rattle.model.proofs.PlansAgree.{plans-agree}
 use Rattle.model.proofs.SetLaws.{Ascending}
 use Rattle.model.proofs.ValueLaws.{linearValue}
@@ -43,7 +43,7 @@ record Differ (x y : Row) : Type 0 where
   equal-before : (c : ℕ) → c < at → columnAt c x ≡ columnAt c y
   less : order (columnAt at x) (columnAt at y) ≡ Ordering·lt
 
-first-difference : (x y : Row) → LowestRow x → LowestRow y → length x ≡ length y → orderRows x y ≡ Ordering·lt
+first-difference : (x y : Row) → ProperRow x → ProperRow y → length x ≡ length y → orderRows x y ≡ Ordering·lt
     → Differ x y
 unfolding lexicographic
 first-difference [] [] p p′ l e = absurd (let z : _≡_ {A = ℕ} 0 1 = cc in omega arith)
@@ -101,18 +101,18 @@ module _ (l : Lengths) (d : List ℤ) (qs ps : List ℕ) (budget : ℕ) (words :
   unfolding result
   ascending = set-ascending levels d (questionOf qs) 0 unbound
 
-  -- row r of the set: its columns, its values in lowest terms
+  -- row r of the set: its columns, its values in lowest terms or absent
   row-columns : (r : ℕ) → r < length rs → length (getD rs r []) ≡ a .columns
   row-columns r h = all-at (λ x. length x ≡ n) [] rs r h (result-columns d (questionOf qs)) ∙ sym (rows .columns)
 
-  row-lowest : (r : ℕ) → r < length rs → LowestRow (getD rs r [])
+  row-proper : (r : ℕ) → r < length rs → ProperRow (getD rs r [])
   unfolding result
-  row-lowest r h = all-at LowestRow [] rs r h (set-lowest levels d (questionOf qs) 0 unbound)
+  row-proper r h = all-at ProperRow [] rs r h (set-proper levels d (questionOf qs) 0 unbound)
 
   differ : (r r′ : ℕ) → r < r′ → r′ < length rs → Differ (getD rs r []) (getD rs r′ [])
   differ r r′ h k =
       let i : r < length rs = omega arith in
-      first-difference (getD rs r []) (getD rs r′ []) (row-lowest r i) (row-lowest r′ k)
+      first-difference (getD rs r []) (getD rs r′ []) (row-proper r i) (row-proper r′ k)
       (row-columns r i ∙ sym (row-columns r′ k)) (ascending-at orderRows [] rs r r′ h k ascending)
 
   between : (r r′ : ℕ) → r < r′ → r′ < a .rows → Precedes (a .columns) after r r′

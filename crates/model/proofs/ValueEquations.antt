@@ -1,9 +1,11 @@
 -- The equations of specs/Value, one for each case.
 use Prim.Native.Nat.{ℕ, suc, _/_, _%_, compare, Ordering·lt, Ordering·gt}
+use mathlib.Core.Bool.{_&&_}
 use mathlib.Core.Path.{_≡_, refl}
-use lib.Dec.{isEq}
+use lib.Dec.{isEq, ltb}
 use lib.IntN.{ℤ, pos, negsuc, natAbs, _*ℤ_, negℤ}
-use Rattle.model.specs.Value.{Value, gcdIn, gcd, divZ, ratio, compareZ, equalZ, order, testOf, meets}
+use Rattle.model.specs.Value.{Value, present, gcdIn, gcd, divZ, ratio, compareZ, equalZ, orderPresent}
+use Rattle.model.specs.Value.{absentFirst, order, testOf, meets}
 
 pub gcdIn-spent : (a b : ℕ) → gcdIn 0 a b ≡ a
 unfolding gcdIn
@@ -61,10 +63,18 @@ pub equalZ-is : (x y : ℤ) → equalZ x y ≡ isEq (compareZ x y)
 unfolding equalZ
 equalZ-is x y = refl
 
-pub order-is : (x y : Value) → order x y ≡ compareZ (x .num *ℤ pos (y .den)) (y .num *ℤ pos (x .den))
+pub present-is : (x : Value) → present x ≡ ltb 0 (x .den)
+unfolding present
+present-is x = refl
+
+pub orderPresent-is : (x y : Value) → orderPresent x y ≡ compareZ (x .num *ℤ pos (y .den)) (y .num *ℤ pos (x .den))
+unfolding orderPresent
+orderPresent-is x y = refl
+
+pub order-is : (x y : Value) → order x y ≡ absentFirst (x .den) (y .den) (orderPresent x y)
 unfolding order
 order-is x y = refl
 
-pub meets-is : (o : ℕ) (x y : Value) → meets o x y ≡ testOf o (order x y)
+pub meets-is : (o : ℕ) (x y : Value) → meets o x y ≡ present x && (present y && testOf o (order x y))
 unfolding meets
 meets-is o x y = refl

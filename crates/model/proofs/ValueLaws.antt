@@ -1,14 +1,21 @@
--- Integers and values in order: the order of values in lowest terms is linear; `ratio` gives lowest terms and the
--- same value.
+-- Integers and values in order: the order of values that are in lowest terms or absent is linear; `ratio` gives lowest
+-- terms and the same value.
+--   linearZ            the order of integers is linear; linearPresent: that of values in lowest terms
+--   Lowest x           x is in lowest terms; Proper x: or absent
+--   linearValue        the order of proper values is linear, so equal ones are the same numerator and denominator
+--   absent-before       absent stands before every value that is present; absent-same: and is equal to itself
+--   absent-meets-nothing   absent meets no operator, on either side
 use Prim.Native.Nat.{ℕ, zero, suc, _*_, _/_, _<_, compare, Ordering, Ordering·lt, Ordering·eq, Ordering·gt}
 use Prim.Native.Nat.{compare·zero-suc, compare·suc-zero, compare·suc-suc}
 use native.Mathlib.Nat.{mul-lt-mul-of-pos-right, mul-pos, zero-mul, mul-one, mul-div-cancel', eq-of-mul-eq-mul-left}
 use native.Mathlib.Nat.{pos-of-dvd-of-pos, eq-one-of-dvd-one}
 use native.Mathlib.Omega.{arith}
+use mathlib.Core.Bool.{Bool, true, false, _&&_}
 use mathlib.Core.Path.{_≡_, refl, sym, _∙_, ap, ap₂, subst}
-use lib.Dec.{T, isEq, eqb→eq}
+use lib.Dec.{T, isEq, eqb→eq, ltb, leb·zero, leb·suc-suc}
 use lib.IntN.{ℤ, pos, negsuc, natAbs, negℤ, _*ℤ_}
-use Rattle.model.specs.Value.{Value, whole, gcd, divZ, ratio, compareZ, order}
+use Rattle.model.specs.Value.{Value, whole, absent, present, gcd, divZ, ratio, compareZ, orderPresent}
+use Rattle.model.specs.Value.{absentFirst, testOf, order, meets}
 use Rattle.model.proofs.GcdLaws.{scale, gcd-left, gcd-right, pos-factor, coprime-den}
 use Rattle.model.proofs.SetLaws.{Linear}
 
@@ -168,9 +175,9 @@ same-value x y p q e = ap₂ (λ a b. record { num = a; den = b }) nums dens
     nums : x .num ≡ y .num
     nums = linearZ .same (x .num) (y .num) tt tt (sym (scaleZ (x .num) (y .num) (x .den) (p .positive)) ∙ crossed)
 
-order-chain : (x y z : Value) → Lowest x → Lowest y → Lowest z → order x y ≡ Ordering·lt → order y z ≡ Ordering·lt
-    → order x z ≡ Ordering·lt
-unfolding order
+order-chain : (x y z : Value) → Lowest x → Lowest y → Lowest z → orderPresent x y ≡ Ordering·lt
+    → orderPresent y z ≡ Ordering·lt → orderPresent x z ≡ Ordering·lt
+unfolding orderPresent
 order-chain x y z p q r e f =
     let X = x .num in let Y = y .num in let Z = z .num in
     let a = x .den in let b = y .den in let c = z .den in
@@ -183,15 +190,102 @@ order-chain x y z p q r e f =
     (ap (λ t. compareZ t (Z *ℤ pos b *ℤ pos a)) (swap-factors Y a c) ∙ f′) in
     sym (scaleZ (X *ℤ pos c) (Z *ℤ pos a) b (q .positive)) ∙ ap₂ compareZ (swap-factors X c b) (swap-factors Z a b) ∙ g
 
-pub linearValue : Linear Lowest order
-unfolding order
-linearValue =
+linearPresent : Linear Lowest orderPresent
+unfolding orderPresent
+linearPresent =
     record {
       same = λ x y p q e. same-value x y p q (linearZ .same (x .num *ℤ pos (y .den)) (y .num *ℤ pos (x .den)) tt tt e);
       self = λ x. linearZ .self (x .num *ℤ pos (x .den));
       turn = λ x y p q. linearZ .turn (x .num *ℤ pos (y .den)) (y .num *ℤ pos (x .den)) tt tt;
       chain = order-chain;
     }
+
+-- a value of a set: in lowest terms, or absent
+pub data Proper : Value → Type 0 where
+  lowest : {x : Value} → Lowest x → Proper x
+  nothing : Proper absent
+
+pub whole-proper : (x : ℤ) → Proper (whole x)
+whole-proper x = lowest (whole-lowest x)
+
+pub present-true : (x : Value) → 0 < x .den → present x ≡ true
+unfolding present
+present-true x h = go (x .den) h
+  where
+    go : (d : ℕ) → 0 < d → ltb 0 d ≡ true
+    go zero h = absurd (omega arith)
+    go (suc d) h = leb·suc-suc 0 d ∙ leb·zero d
+
+-- where both are present, the order is that of the cross products
+pub both-present : (x y : Value) → 0 < x .den → 0 < y .den → order x y ≡ orderPresent x y
+unfolding order
+both-present x y h k = go (x .den) (y .den) h k
+  where
+    go : (d e : ℕ) → 0 < d → 0 < e → absentFirst d e (orderPresent x y) ≡ orderPresent x y
+    go zero e h k = absurd (omega arith)
+    go (suc d) zero h k = absurd (omega arith)
+    go (suc d) (suc e) h k = refl
+
+pub absent-before : (y : Value) → 0 < y .den → order absent y ≡ Ordering·lt
+unfolding order
+absent-before y k = go (y .den) k
+  where
+    go : (e : ℕ) → 0 < e → absentFirst 0 e (orderPresent absent y) ≡ Ordering·lt
+    go zero k = absurd (omega arith)
+    go (suc e) k = refl
+
+pub absent-after : (x : Value) → 0 < x .den → order x absent ≡ Ordering·gt
+unfolding order
+absent-after x k = go (x .den) k
+  where
+    go : (d : ℕ) → 0 < d → absentFirst d 0 (orderPresent x absent) ≡ Ordering·gt
+    go zero k = absurd (omega arith)
+    go (suc d) k = refl
+
+pub absent-same : order absent absent ≡ Ordering·eq
+unfolding order
+absent-same = refl
+
+self : (x : Value) → order x x ≡ Ordering·eq
+unfolding order
+self x = go (x .den)
+  where
+    go : (d : ℕ) → absentFirst d d (orderPresent x x) ≡ Ordering·eq
+    go zero = refl
+    go (suc d) = linearPresent .self x
+
+pub linearValue : Linear Proper order
+linearValue = record { same = same; self = self; turn = turn; chain = chain }
+  where
+    both : (x y : Value) → Lowest x → Lowest y → order x y ≡ orderPresent x y
+    both x y p q = both-present x y (p .positive) (q .positive)
+
+    same : (x y : Value) → Proper x → Proper y → order x y ≡ Ordering·eq → x ≡ y
+    same x y (lowest p) (lowest q) e = linearPresent .same x y p q (sym (both x y p q) ∙ e)
+    same x y (lowest p) nothing e = cc (absent-after x (p .positive))
+    same x y nothing (lowest q) e = cc (absent-before y (q .positive))
+    same x y nothing nothing e = refl
+
+    turn : (x y : Value) → Proper x → Proper y → order x y ≡ Ordering·gt → order y x ≡ Ordering·lt
+    turn x y (lowest p) (lowest q) e = both y x q p ∙ linearPresent .turn x y p q (sym (both x y p q) ∙ e)
+    turn x y (lowest p) nothing e = absent-before x (p .positive)
+    turn x y nothing (lowest q) e = cc (absent-before y (q .positive))
+    turn x y nothing nothing e = cc absent-same
+
+    chain : (x y z : Value) → Proper x → Proper y → Proper z → order x y ≡ Ordering·lt → order y z ≡ Ordering·lt
+        → order x z ≡ Ordering·lt
+    chain x y z (lowest p) (lowest q) (lowest r) e f =
+        both x z p r ∙ linearPresent .chain x y z p q r (sym (both x y p q) ∙ e) (sym (both y z q r) ∙ f)
+    chain x y z (lowest p) (lowest q) nothing e f = cc (absent-after y (q .positive))
+    chain x y z (lowest p) nothing s e f = cc (absent-after x (p .positive))
+    chain x y z nothing q (lowest r) e f = absent-before z (r .positive)
+    chain x y z nothing (lowest q) nothing e f = cc (absent-after y (q .positive))
+    chain x y z nothing nothing nothing e f = e
+
+-- two integers meet an operator as they compare
+pub whole-meets : (op : ℕ) (x y : ℤ) → meets op (whole x) (whole y) ≡ testOf op (compareZ x y)
+unfolding meets present order orderPresent
+whole-meets op x y = ap (testOf op) (scaleZ x y 1 (omega arith))
 
 -- `ratio`
 module _ (n d : ℕ) (h : 0 < d) where
@@ -232,6 +326,8 @@ ratio-value (negsuc n) d h = neg-mul (suc n / gcd (suc n) d) d ∙ ap (λ t. neg
 
 -- so it compares equal with the bare numerator over the bare denominator
 pub ratio-order : (n : ℤ) (d : ℕ) → 0 < d → order (ratio n d) (record { num = n; den = d }) ≡ Ordering·eq
-unfolding order
+unfolding orderPresent
 ratio-order n d h =
-    ap (λ t. compareZ t (n *ℤ pos (ratio n d .den))) (ratio-value n d h) ∙ linearZ .self (n *ℤ pos (ratio n d .den))
+    both-present (ratio n d) (record { num = n; den = d }) (ratio-lowest n d h .positive) h
+    ∙ ap (λ t. compareZ t (n *ℤ pos (ratio n d .den))) (ratio-value n d h)
+    ∙ linearZ .self (n *ℤ pos (ratio n d .den))

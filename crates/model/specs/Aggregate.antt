@@ -1,24 +1,29 @@
--- Aggregates of a set of rows (01, "Matching": "row by row, so equal values in different rows all tell"). Of an empty
--- set each is zero.
+-- Aggregates of a set of rows (01, "Matching": "row by row, so equal values in different rows all tell"; No. 3: sum,
+-- min, max and ave pass over absent values, count does not). Of an empty set count and sum are zero, the others absent.
 --   columnAt c r          the value in column c of a row; columnOf c rs: those of all rows, row by row
+--   presentOf xs          the values that are not absent
 --   total xs              the sum of the numerators of whole values
 --   lesser x y, greater x y   the one of two values that is less, that is greater; the first where they are equal
 --   leastFrom x xs, greatestFrom x xs   the least and the greatest of x and further values
---   sumOf, minOf, maxOf, aveOf   of the values of a column
+--   sumOf, minOf, maxOf, aveOf   of values that are present
 --   aggregateOf f c rs    function f (0 count, 1 sum, 2 min, 3 max, 4 ave) of column c of a set
 use Prim.Native.Nat.{ℕ, zero, suc}
 use mathlib.Core.Bool.{Bool, true, false}
 use mathlib.Core.List.{List, [], _∷_, map}
 use lib.IntN.{ℤ, pos, _+ℤ_}
 use lib.ListN.{length, getD}
+use Rattle.model.specs.Lists.{filter}
 use Rattle.model.specs.RowSet.{Row}
-use Rattle.model.specs.Value.{Value, whole, zeroValue, ratio, order, isLt}
+use Rattle.model.specs.Value.{Value, whole, zeroValue, absent, present, ratio, order, isLt}
 
 abbrev pub columnAt : ℕ → Row → Value
 columnAt c r = getD r c zeroValue
 
 abbrev pub columnOf : ℕ → List Row → List Value
 columnOf c rs = map (columnAt c) rs
+
+unfoldable pub presentOf : List Value → List Value
+presentOf xs = filter present xs
 
 unfoldable pub total : List Value → ℤ
 total [] = pos 0
@@ -42,20 +47,20 @@ unfoldable pub sumOf : List Value → Value
 sumOf xs = whole (total xs)
 
 unfoldable pub minOf : List Value → Value
-minOf [] = zeroValue
+minOf [] = absent
 minOf (x ∷ xs) = leastFrom x xs
 
 unfoldable pub maxOf : List Value → Value
-maxOf [] = zeroValue
+maxOf [] = absent
 maxOf (x ∷ xs) = greatestFrom x xs
 
 unfoldable pub aveOf : List Value → Value
-aveOf [] = zeroValue
+aveOf [] = absent
 aveOf (x ∷ xs) = ratio (total (x ∷ xs)) (length (x ∷ xs))
 
 unfoldable pub aggregateOf : ℕ → ℕ → List Row → Value
 aggregateOf zero c rs = whole (pos (length rs))
-aggregateOf (suc zero) c rs = sumOf (columnOf c rs)
-aggregateOf (suc (suc zero)) c rs = minOf (columnOf c rs)
-aggregateOf (suc (suc (suc zero))) c rs = maxOf (columnOf c rs)
-aggregateOf (suc (suc (suc (suc f)))) c rs = aveOf (columnOf c rs)
+aggregateOf (suc zero) c rs = sumOf (presentOf (columnOf c rs))
+aggregateOf (suc (suc zero)) c rs = minOf (presentOf (columnOf c rs))
+aggregateOf (suc (suc (suc zero))) c rs = maxOf (presentOf (columnOf c rs))
+aggregateOf (suc (suc (suc (suc f)))) c rs = aveOf (presentOf (columnOf c rs))

@@ -17,5 +17,6 @@ pub mod Index
 pub mod Outcome
 pub mod Answer
 pub mod PlanAgreement
+pub mod AbsentValues
 pub mod ResultOrder
 pub mod Listing

@@ -7,7 +7,8 @@
 --   parts                the parts DA, QU, PN in order; jobOf bs: the job that the bytes are, or none
 --   signed32 n           n as 32-bit two's complement; wordsOf bs: data bytes as words, the lowest byte first
 --   digitsIn f n         the decimal digits of n, where it has at most f; digits n: all of them
---   integerText x        an integer; valueText v: a value, its numerator alone where the denominator is 1
+--   integerText x        an integer; valueText v: a value, its numerator alone where the denominator is 1, a minus sign
+--                        alone where it is absent (No. 3)
 --   rowText r            a row's line, its fields split by a space; rowsText rs: the lines of rows
 --   okLine a, noLine n   the first line of an accepted answer; the line of a refusal by number n
 --   answerText a rs      what is printed for answer a, with rows rs where it is accepted, as they stand in the result (No. 2);
@@ -91,7 +92,8 @@ integerText (pos n) = digits n
 integerText (negsuc n) = 45 ∷ digits (suc n)
 
 unfoldable pub valueText : Value → List ℕ
-valueText v = cond (eqb (v .den) 1) (integerText (v .num)) (integerText (v .num) ++ (47 ∷ digits (v .den)))
+valueText v = cond (eqb (v .den) 0) (45 ∷ [])
+    (cond (eqb (v .den) 1) (integerText (v .num)) (integerText (v .num) ++ (47 ∷ digits (v .den))))
 
 unfoldable pub rowText : Row → List ℕ
 rowText [] = 10 ∷ []

@@ -13,7 +13,7 @@ use lib.IntN.{ℤ}
 use Rattle.model.specs.RowSet.{Row, insert, orderRows, rowWords, setWords}
 use Rattle.model.specs.Lists.{All}
 use Rattle.model.proofs.SetLaws.{Ascending, insert-all}
-use Rattle.model.proofs.OrderLaws.{LowestRow, linearRows}
+use Rattle.model.proofs.OrderLaws.{ProperRow, linearRows}
 use Rattle.model.proofs.WordLaws.{words-length}
 use Rattle.value.specs.Exact.{Fair}
 use Rattle.rows.specs.declared.Place.{Place}
@@ -140,8 +140,8 @@ pub record Ready (n : ℕ) (l x : List ℤ) (rows : List Row) (c : Row) : Type 0
   pub set : Encodes n l rows
   pub row : Carries n x c
   pub ascending : Ascending orderRows rows
-  pub rows-lowest : All LowestRow rows
-  pub row-lowest : LowestRow c
+  pub rows-proper : All ProperRow rows
+  pub row-proper : ProperRow c
   pub rows-fair : All (All Fair) rows
   pub row-fair : All Fair c
 
@@ -161,7 +161,7 @@ module _ (n : ℕ) (l x : List ℤ) (rows : List Row) (c : Row) (R : Ready n l x
 
   told : Told orderRows c rows (bisect (atPlace n x l) count 0 count)
   told =
-      bisected LowestRow orderRows linearRows [] c rows (R .row-lowest) (R .rows-lowest) (R .ascending) (atPlace n x l)
+      bisected ProperRow orderRows linearRows [] c rows (R .row-proper) (R .rows-proper) (R .ascending) (atPlace n x l)
       (at-row n x l c rows (R .row) (R .set) (R .row-fair) (R .rows-fair))
 
   fits : fitsIn n count (roomOf (length l)) (roomOf (length x)) ≡ true

@@ -16,7 +16,7 @@ use Rattle.model.specs.Value.{gcd, divZ}
 use Rattle.model.proofs.GcdLaws.{gcd-right}
 use Rattle.value.specs.declared.Value.{Value}
 use Rattle.value.specs.declared.Mean.the-variants as mean
-use Rattle.value.specs.Exact.{emptyOf, lowestOf, averageOf}
+use Rattle.value.specs.Exact.{inWords, lowestOf, averageOf}
 use Rattle.value.proofs.Ints.{abs-neg, sfits-abs, read-back}
 
 -- the machine's division toward zero
@@ -84,6 +84,6 @@ unfolding averageOf
 average-of s zero h k e = absurd (omega arith)
 average-of s (suc n) h k e = simp (le-leb (suc n) 256 k, e)
 
-pub average-none : (s : ℤ) → averageOf s 0 ≡ mean.Of (emptyOf 4)
+pub average-none : (s : ℤ) → averageOf s 0 ≡ mean.Of (inWords model.absent)
 unfolding averageOf
 average-none s = refl

@@ -1,16 +1,30 @@
 -- Laws of ℤ: sizes of sums and products, and a signed word's bits read back. Assumes nothing.
-use mathlib.Core.Path.{_≡_, refl, sym, subst}
-use mathlib.Core.Bool.{Bool, true, false, cond}
+use mathlib.Core.Path.{_≡_, refl, sym, _∙_, ap, subst}
+use mathlib.Core.Bool.{Bool, true, false, cond, not}
 use Prim.Native.Nat.{ℕ, zero, suc, _+_, _*_, _-_, _^_, _≤_, _<_, suc-le-suc}
 use native.Mathlib.Nat.{le-refl, le-suc, lt-of-le-of-lt, mul-le-mul, zero-lt-suc, add-comm}
 use native.Mathlib.Omega.{arith}
-use lib.Dec.{T, ltb, leb}
-use borrow.Author.Tests.{ltb-true, ltb-false, lt-leb, le-leb}
+use lib.Dec.{T, eqb, ltb, leb}
+use borrow.Author.Tests.{ltb-true, ltb-false, lt-leb, le-leb, lt-ltb, ne-eqb}
 use lib.IntN.{ℤ, pos, negsuc, negℤ, natAbs, subℕ, _+ℤ_, _-ℤ_, _*ℤ_, +ℤ-idl}
 use lib.Signed.{mag, ltZ, leZ, nonNeg}
 use mir.Syntax.{w64}
 use mir.Val.{SFits, toZ, ofZ}
 use mir.Facts.{toZ-ofZ}
+
+pub abs-zero : (z : ℤ) → natAbs z ≡ 0 → z ≡ pos 0
+abs-zero (pos n) e = ap pos e
+abs-zero (negsuc n) e = absurd (omega arith)
+
+-- the bits of 0 are those of no other number
+pub zero-bits : (z : ℤ) → SFits w64 z → eqb (ofZ w64 z) 0 ≡ eqb (natAbs z) 0
+zero-bits (pos n) f = refl
+zero-bits (negsuc n) f =
+    ne-eqb (2 ^ 64 - suc n) 0 (λ e. let b = f .sfits in omega arith) ∙ sym (ne-eqb (suc n) 0 (λ e. omega arith))
+
+pub some-is : (n : ℕ) → not (eqb n 0) ≡ ltb 0 n
+some-is zero = refl
+some-is (suc n) = ap not (ne-eqb (suc n) 0 (λ e. omega arith)) ∙ sym (lt-ltb 0 (suc n) (omega arith))
 
 pub abs-neg : (z : ℤ) → natAbs (negℤ z) ≡ natAbs z
 abs-neg (pos zero) = refl

@@ -1,6 +1,6 @@
 -- Values in words: what the bounds give, the machine's tests as the model's order, order and operators by their cases.
 -- Assumes nothing.
-use Prim.Native.Nat.{ℕ, zero, suc, _^_, _<_, _≤_, compare, Ordering, Ordering·lt, Ordering·eq, Ordering·gt}
+use Prim.Native.Nat.{ℕ, zero, suc, _^_, _<_, _≤_, zero-le, compare, Ordering, Ordering·lt, Ordering·eq, Ordering·gt}
 use Prim.Native.Nat.{compare·suc-suc, compare·zero-suc, compare·suc-zero}
 use native.Mathlib.Nat.{lt-of-le-of-lt}
 use native.Mathlib.Omega.{arith}
@@ -9,55 +9,83 @@ use mathlib.Core.Path.{_≡_, refl, sym, _∙_, ap, ap₂, subst}
 use mir.Facts.{toZ-ofZ}
 use mir.Syntax.{w64}
 use mir.Val.{SFits, toZ, ofZ}
-use borrow.Author.Tests.{ltb-true, ltb-false, le-leb, eqb-true}
-use lib.Dec.{T, eqb, leb, leb→le, lit<}
+use borrow.Author.Tests.{ltb-true, ltb-false, lt-ltb, le-leb, eqb-true}
+use lib.Dec.{T, eqb, ltb, leb, eqb→eq, ltb→lt, leb→le, lit<}
 use lib.IntN.{ℤ, pos, negsuc, natAbs, _*ℤ_}
 use lib.Signed.{ltZ, leZ}
 use Rattle.model.specs.Value as model
 use Rattle.model.specs.Value.{compareZ, order, testOf}
-use Rattle.model.proofs.ValueLaws.{compare-self, scaleZ}
+use Rattle.model.proofs.ValueLaws.{compare-self, scaleZ, both-present}
 use Rattle.value.specs.declared.Value.{Value}
 use Rattle.value.specs.declared.Compared.{Compared}
 use Rattle.value.specs.declared.Compared.the-variants.{Less, Equal, Greater, Outside}
 use Rattle.value.specs.declared.Verdict.{Verdict}
 use Rattle.value.specs.declared.Verdict.the-variants as verdict
 use Rattle.value.specs.Exact.{exact, inWords, insideOf, Fair, tell, orderOf, holdsOf, says}
-use Rattle.value.proofs.Ints.{abs-mul-le, sfits-abs, read-back}
+use Rattle.value.proofs.Ints.{abs-zero, abs-mul-le, sfits-abs, read-back}
+
+-- a value that is there has a denominator, absent is 0 over 0
+pub present-some : (v : Value) → model.present (exact v) ≡ true → 0 < natAbs (v .den)
+unfolding model.present
+present-some v e = ltb-true 0 (natAbs (v .den)) e
+
+pub present-none : (v : Value) → model.present (exact v) ≡ false → v .den ≡ pos 0
+unfolding model.present
+present-none v e = abs-zero (v .den) (omega (arith, ltb-false 0 (natAbs (v .den)) e))
 
 -- what the bounds give
 pub record Inside (v : Value) : Type 0 where
   pub num : natAbs (v .num) ≤ 1000000000000000
   pub den : natAbs (v .den) ≤ 256
-  pub positive : 0 < natAbs (v .den)
   pub sign : pos (natAbs (v .den)) ≡ v .den
 
 pub both : (a b : Bool) → T (a && b) → T a × T b
 both true true t = (tt, tt)
 
-fair : (d : ℤ) → T (leZ (pos 1) d) → T (leZ d (pos 256)) → (natAbs d ≤ 256) × (0 < natAbs d) × (pos (natAbs d) ≡ d)
-fair (pos n) l u = (leb→le n 256 u, leb→le 1 n l, refl)
+fair : (d : ℤ) → T (leZ (pos 1) d) → T (leZ d (pos 256)) → (natAbs d ≤ 256) × (pos (natAbs d) ≡ d)
+fair (pos n) l u = (leb→le n 256 u, refl)
+
+-- absent, or a numerator and a denominator that are small
+pub inside-absent : (v : Value) → T (insideOf v) → model.present (exact v) ≡ false → v ≡ inWords model.absent
+unfolding insideOf
+inside-absent v t e =
+    let n = abs-zero (v .num) (eqb→eq (natAbs (v .num)) 0 (rw e at t)) in
+    let d = present-none v e in
+    λ j. record { num = n j; den = d j }
 
 pub inside-is : (v : Value) → T (insideOf v) → Inside v
 unfolding insideOf
-inside-is v t =
-    let p = both (leb (natAbs (v .num)) 1000000000000000) (leZ (pos 1) (v .den) && leZ (v .den) (pos 256)) t in
-    let q = both (leZ (pos 1) (v .den)) (leZ (v .den) (pos 256)) (p .1) in
-    let f = fair (v .den) (q .0) (q .1) in
-    record { num = leb→le (natAbs (v .num)) 1000000000000000 (p .0); den = f .0; positive = f .1; sign = f .2 }
+inside-is v t = go (model.present (exact v)) refl
+  where
+    some : T (leb (natAbs (v .num)) 1000000000000000 && (leZ (pos 1) (v .den) && leZ (v .den) (pos 256))) → Inside v
+    some t =
+        let p = both (leb (natAbs (v .num)) 1000000000000000) (leZ (pos 1) (v .den) && leZ (v .den) (pos 256)) t in
+        let q = both (leZ (pos 1) (v .den)) (leZ (v .den) (pos 256)) (p .1) in
+        let f = fair (v .den) (q .0) (q .1) in
+        record { num = leb→le (natAbs (v .num)) 1000000000000000 (p .0); den = f .0; sign = f .1 }
 
-pub inside-num : (v : Value) → leb (natAbs (v .num)) 1000000000000000 ≡ false → insideOf v ≡ false
-unfolding insideOf
-inside-num v e = simp e
+    go : (b : Bool) → model.present (exact v) ≡ b → Inside v
+    go true e = some (rw e at t)
+    go false e = rw (inside-absent v t e) (record { num = zero-le; den = zero-le; sign = refl })
 
-pub inside-low : (v : Value) → leb (natAbs (v .num)) 1000000000000000 ≡ true → leZ (pos 1) (v .den) ≡ false
-    → insideOf v ≡ false
+-- the tests one by one
+pub inside-none : (v : Value) → model.present (exact v) ≡ false → insideOf v ≡ eqb (natAbs (v .num)) 0
 unfolding insideOf
-inside-low v e f = simp (e, f)
+inside-none v p = simp p
 
-pub inside-high : (v : Value) → leb (natAbs (v .num)) 1000000000000000 ≡ true → leZ (pos 1) (v .den) ≡ true
-    → insideOf v ≡ leZ (v .den) (pos 256)
-unfolding insideOf
-inside-high v e f = simp (e, f)
+module _ (v : Value) (p : model.present (exact v) ≡ true) where
+  pub inside-num : leb (natAbs (v .num)) 1000000000000000 ≡ false → insideOf v ≡ false
+  unfolding insideOf
+  inside-num e = simp (p, e)
+
+  pub inside-low : leb (natAbs (v .num)) 1000000000000000 ≡ true → leZ (pos 1) (v .den) ≡ false → insideOf v ≡ false
+  unfolding insideOf
+  inside-low e f = simp (p, e, f)
+
+  pub inside-high : leb (natAbs (v .num)) 1000000000000000 ≡ true → leZ (pos 1) (v .den) ≡ true
+      → insideOf v ≡ leZ (v .den) (pos 256)
+  unfolding insideOf
+  inside-high e f = simp (p, e, f)
 
 -- the tests as the model's order
 compare-lt : (m n : ℕ) → m < n → compare m n ≡ Ordering·lt
@@ -126,18 +154,40 @@ module _ (x y : Value) (p : T (insideOf x)) (q : T (insideOf y)) where
   pub den-small : natAbs (passed (y .den)) ≤ 256
   den-small = rw (den-passed y q) (inside-is y q .den)
 
-  pub crossed : compareZ (passed (x .num) *ℤ passed (y .den)) (passed (y .num) *ℤ passed (x .den))
-      ≡ order (exact x) (exact y)
-  unfolding order
-  crossed =
+  pub crossed : model.present (exact x) && model.present (exact y) ≡ true
+      → compareZ (passed (x .num) *ℤ passed (y .den)) (passed (y .num) *ℤ passed (x .den)) ≡ order (exact x) (exact y)
+  unfolding model.orderPresent model.present
+  crossed e =
+      let t = both (model.present (exact x)) (model.present (exact y)) (subst T (sym e) tt) in
       ap₂ compareZ (ap₂ _*ℤ_ (num-passed x p) (den-passed y q)) (ap₂ _*ℤ_ (num-passed y q) (den-passed x p))
       ∙ sym (ap₂ (λ d e. compareZ (x .num *ℤ d) (y .num *ℤ e)) (inside-is y q .sign) (inside-is x p .sign))
+      ∙ sym (both-present (exact x) (exact y) (some x (t .0)) (some y (t .1)))
+    where
+      some : (v : Value) → T (model.present (exact v)) → 0 < natAbs (v .den)
+      some v t = ltb→lt 0 (natAbs (v .den)) t
 
-abbrev pub judge : ℕ → Compared → Verdict
-judge op Less = says (testOf op Ordering·lt)
-judge op Equal = says (testOf op Ordering·eq)
-judge op Greater = says (testOf op Ordering·gt)
-judge op Outside = verdict.Outside
+  -- where one is absent, the denominators tell
+  pub denominators : model.present (exact x) && model.present (exact y) ≡ false
+      → compareZ (passed (x .den)) (passed (y .den)) ≡ order (exact x) (exact y)
+  unfolding order compareZ model.present
+  denominators e =
+      ap₂ compareZ (den-passed x p ∙ sym (inside-is x p .sign)) (den-passed y q ∙ sym (inside-is y q .sign))
+      ∙ go (natAbs (x .den)) (natAbs (y .den)) e
+    where
+      go : (d e : ℕ) → ltb 0 d && ltb 0 e ≡ false
+          → compare d e ≡ model.absentFirst d e (model.orderPresent (exact x) (exact y))
+      go zero zero h = compare-self 0
+      go zero (suc e) h = compare·zero-suc e
+      go (suc d) zero h = compare·suc-zero d
+      go (suc d) (suc e) h =
+          absurd (subst T (sym (ap₂ _&&_ (lt-ltb 0 (suc d) (omega arith)) (lt-ltb 0 (suc e) (omega arith))) ∙ h) tt)
+
+-- an operator by the order; met only where both values are there
+abbrev pub judge : ℕ → Bool → Compared → Verdict
+judge op there Less = says (there && testOf op Ordering·lt)
+judge op there Equal = says (there && testOf op Ordering·eq)
+judge op there Greater = says (there && testOf op Ordering·gt)
+judge op there Outside = verdict.Outside
 
 -- the order, by where the values are
 module _ (x y : Value) where
@@ -153,20 +203,24 @@ module _ (x y : Value) where
   unfolding orderOf
   order-inside e f = simp (e, f)
 
-  -- an operator, by the order
-  pub holds-by : (op : ℕ) → holdsOf op x y ≡ judge op (orderOf x y)
+  pub holds-by : (op : ℕ) → holdsOf op x y ≡ judge op (model.present (exact x) && model.present (exact y)) (orderOf x y)
   unfolding holdsOf orderOf model.meets
-  holds-by op = go (insideOf x && insideOf y) (order (exact x) (exact y))
+  holds-by op =
+      go (insideOf x && insideOf y) (model.present (exact x)) (model.present (exact y)) (order (exact x) (exact y))
     where
-      go : (t : Bool) (c : Ordering) → cond t (says (testOf op c)) verdict.Outside ≡ judge op (cond t (tell c) Outside)
-      go true Ordering·lt = refl
-      go true Ordering·eq = refl
-      go true Ordering·gt = refl
-      go false c = refl
+      go : (t a b : Bool) (c : Ordering) → cond t (says (a && (b && testOf op c))) verdict.Outside
+          ≡ judge op (a && b) (cond t (tell c) Outside)
+      go true true b Ordering·lt = refl
+      go true true b Ordering·eq = refl
+      go true true b Ordering·gt = refl
+      go true false b Ordering·lt = refl
+      go true false b Ordering·eq = refl
+      go true false b Ordering·gt = refl
+      go false a b c = refl
 
 -- ---- whole values: the numerators tell
 inside-whole : (n : ℤ) → insideOf (inWords (model.whole n)) ≡ leb (natAbs n) 1000000000000000
-unfolding insideOf
+unfolding insideOf model.present
 inside-whole n = go (leb (natAbs n) 1000000000000000)
   where
     go : (t : Bool) → t && true ≡ t
@@ -179,7 +233,7 @@ module _ (n m : ℤ) (s t : Bool) (s-is : s ≡ leb (natAbs n) 1000000000000000)
   within = ap₂ _&&_ (inside-whole n ∙ sym s-is) (inside-whole m ∙ sym t-is)
 
   pub wholes-inside : s && t ≡ true → tell (compareZ n m) ≡ orderOf (inWords (model.whole n)) (inWords (model.whole m))
-  unfolding orderOf order
+  unfolding orderOf order model.orderPresent
   wholes-inside e = rw (within ∙ e) (ap tell (sym (scaleZ n m 1 (omega arith))))
 
   pub wholes-outside : s && t ≡ false → Outside ≡ orderOf (inWords (model.whole n)) (inWords (model.whole m))
@@ -212,12 +266,17 @@ wholes-are x y f g h k e =
 -- ---- values of the model within the bounds
 pub fair-inside : (v : model.Value) → Fair v → insideOf (inWords v) ≡ true
 unfolding insideOf
-fair-inside v f =
-    simp (
-      le-leb (natAbs (v .num)) 1000000000000000 (f .num),
-      le-leb 1 (v .den) (f .positive),
-      le-leb (v .den) 256 (f .den),
-    )
+fair-inside v f = go (model.present (exact (inWords v))) refl
+  where
+    go : (b : Bool) → model.present (exact (inWords v)) ≡ b → insideOf (inWords v) ≡ true
+    go true e =
+        simp (
+          e,
+          le-leb (natAbs (v .num)) 1000000000000000 (f .num),
+          le-leb 1 (v .den) (present-some (inWords v) e),
+          le-leb (v .den) 256 (f .den),
+        )
+    go false e = simp e (ap (λ z. eqb (natAbs z) 0) (f .none (ap natAbs (present-none (inWords v) e))))
 
 pub fair-order : (v w : model.Value) → Fair v → Fair w → orderOf (inWords v) (inWords w) ≡ tell (order v w)
 fair-order v w f g = order-inside (inWords v) (inWords w) (fair-inside v f) (fair-inside w g)

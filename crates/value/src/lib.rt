@@ -1,18 +1,20 @@
 // Exact values (01, "Values are whole or ratio"; "Comparison and equality are exact"): a numerator over a denominator,
-// compared by cross products in 64 bits.
+// compared by cross products in 64 bits; or absent, 0 over 0 (No. 3): it stands before every other value and meets no
+// operator.
 //
-// Two values are compared where both are inside the bounds: numerator at most 10^15 in size, denominator 1 to 256. Each
-// value of an evaluated set is so (rows: proofs/FairSets.antt). Elsewhere the answer is Outside. Every average is in
-// lowest terms with a positive denominator; zero is 0/1.
+// Two values are compared where both are inside the bounds: numerator at most 10^15 in size, denominator 1 to 256, or
+// absent. Each value of an evaluated set is so (aggregates: proofs/FairSets.antt). Elsewhere the answer is Outside.
+// Every average of some values is in lowest terms with a positive denominator; zero is 0/1.
 ghost use mathlib.Core.Path.{_≡_};
 ghost use Prim.Native.Nat.{_*_, _<_, _≤_};
-ghost use lib.Dec.{leb};
+ghost use lib.Dec.{T, eqb, leb};
 ghost use lib.IntN.{pos, natAbs, _*ℤ_};
 ghost use lib.Signed.{leZ};
-ghost use Rattle.model.specs.Value.{whole, gcd, testOf, compareZ};
-ghost use Rattle.value.specs.Exact.{inWords, insideOf, orderOf, tell, toldBy, holdsOf, says, emptyOf, averageOf, lowestOf};
+ghost use Rattle.model.specs.Value.{whole, absent, present, gcd, testOf, compareZ, order};
+ghost use Rattle.value.specs.Exact.{exact, inWords, insideOf, orderOf, tell, toldBy, holdsOf, says, emptyOf};
+ghost use Rattle.value.specs.Exact.{averageOf, lowestOf};
 
-// A value: num / den.
+// A value: num / den; absent: 0 / 0.
 pub struct Value {
     pub num: i64,
     pub den: i64,
@@ -39,11 +41,32 @@ pub enum Mean {
     Outside,
 }
 
+// The value of no value: min, max and ave of an empty set.
+pub fn absent() -> Value
+    ensures { λ r. ⌜ r ≡ inWords absent ⌝ }
+{
+    Value { num: 0, den: 0 }
+}
+
+// A value is there: its denominator is not 0.
+pub fn present(x: Value) -> bool
+    ensures { λ r. ⌜ r ≡ present (exact x) ⌝ }
+{
+    x.den != 0
+}
+
 // The greatest common divisor, by Euclid's recursion: the second number falls at each call.
 pub fn gcd(a: u64, b: u64) -> u64
     ensures { λ r. ⌜ r ≡ gcd a b ⌝ }
 {
     if b == 0 { a } else { gcd(b, a % b) }
+}
+
+// A numerator is 0.
+fn is_zero(t: i64) -> bool
+    ensures { λ r. ⌜ r ≡ eqb (natAbs t) 0 ⌝ }
+{
+    t == 0
 }
 
 // At most 10^15 in size.
@@ -80,10 +103,13 @@ fn at_most_256(d: i64) -> bool
     d <= 256
 }
 
-// Inside the bounds: there a cross product fits 64 bits.
+// Inside the bounds: there a cross product fits 64 bits. With denominator 0 only absent is.
 pub fn inside(x: Value) -> bool
     ensures { λ r. ⌜ r ≡ insideOf x ⌝ }
 {
+    if !present(x) {
+        return is_zero(x.num);
+    }
     if !small(x.num) {
         return false;
     }
@@ -117,7 +143,18 @@ fn cross(n: i64, d: i64, m: i64, e: i64) -> Compared
     compare(a, b)
 }
 
-// The exact order of two values, by cross products.
+// The order of two values inside the bounds. Where one is absent the denominators tell: 0 is before all others.
+fn order_inside(x: Value, y: Value) -> Compared
+    requires { ⌜ T (insideOf x) × T (insideOf y) ⌝ }
+    ensures { λ r. ⌜ r ≡ tell (order (exact x) (exact y)) ⌝ }
+{
+    if present(x) & present(y) {
+        return cross(x.num, x.den, y.num, y.den);
+    }
+    compare(x.den, y.den)
+}
+
+// The exact order of two values.
 fn order_ratios(x: Value, y: Value) -> Compared
     ensures { λ r. ⌜ r ≡ orderOf x y ⌝ }
 {
@@ -127,7 +164,7 @@ fn order_ratios(x: Value, y: Value) -> Compared
     if !inside(y) {
         return Compared::Outside;
     }
-    cross(x.num, x.den, y.num, y.den)
+    order_inside(x, y)
 }
 
 // The exact order of two whole values: no product is needed.
@@ -172,15 +209,16 @@ fn answer(yes: bool) -> Verdict
     if yes { Verdict::Yes } else { Verdict::No }
 }
 
-// Whether two values meet operator op.
+// Whether two values meet operator op; an absent one meets none.
 pub fn holds(op: u8, x: Value, y: Value) -> Verdict
     ensures { λ r. ⌜ r ≡ holdsOf op x y ⌝ }
 {
+    let both = present(x) & present(y);
     let o = order(x, y);
     match o {
-        Compared::Less => answer(test(op, true, false)),
-        Compared::Equal => answer(test(op, false, false)),
-        Compared::Greater => answer(test(op, false, true)),
+        Compared::Less => answer(both & test(op, true, false)),
+        Compared::Equal => answer(both & test(op, false, false)),
+        Compared::Greater => answer(both & test(op, false, true)),
         Compared::Outside => Verdict::Outside,
     }
 }
@@ -208,20 +246,23 @@ fn lowest(num: i64, den: u64) -> Value
     }
 }
 
-// Function f (0 count, 1 sum, 2 min, 3 max, 4 and above ave) of an empty set: zero, whatever f is (01, "every aggregate
-// of an empty set is zero").
+// Function f (0 count, 1 sum, 2 min, 3 max, 4 and above ave) of an empty set (No. 3): "Count and sum stay zero", the
+// others are absent.
 pub fn empty_of(f: u8) -> Value
     ensures { λ r. ⌜ r ≡ emptyOf f ⌝ }
 {
-    Value { num: 0, den: 1 }
+    if f < 2 {
+        return Value { num: 0, den: 1 };
+    }
+    absent()
 }
 
-// A sum over a count, in lowest terms; of nothing, the average of an empty set.
+// A sum over a count, in lowest terms; absent over none.
 pub fn average(sum: i64, count: u64) -> Mean
     ensures { λ r. ⌜ r ≡ averageOf sum count ⌝ }
 {
     if count == 0 {
-        return Mean::Of(empty_of(4));
+        return Mean::Of(absent());
     }
     if count > 256 {
         return Mean::Outside;

@@ -82,10 +82,34 @@ fn outsiders() {
     pair(print::over(1000000000000001, 1), one);
     pair(one, print::over(-1000000000000001, 1));
     pair(print::over(0, 257), one);
-    pair(one, print::over(0, 0));
+    pair(one, print::over(1, 0));
     pair(print::over(1, -1), one);
     pair(print::over(-9223372036854775808, 1), one);
     pair(one, print::over(9223372036854775807, 256));
+}
+
+// A value against absent, against four that are like it and outside the bounds, and against three inside.
+fn about_absent(x: Value) {
+    pair(x, print::over(0, 0));
+    pair(x, print::over(1, 0));
+    pair(x, print::over(-1, 0));
+    pair(x, print::over(0, -1));
+    pair(x, print::over(0, 257));
+    pair(x, print::over(1, 256));
+    pair(x, print::over(-1000000000000000, 1));
+    pair(x, print::over(1000000000000000, 1));
+}
+
+// Each of these against each.
+fn absents() {
+    about_absent(print::over(0, 0));
+    about_absent(print::over(1, 0));
+    about_absent(print::over(-1, 0));
+    about_absent(print::over(0, -1));
+    about_absent(print::over(0, 257));
+    about_absent(print::over(1, 256));
+    about_absent(print::over(-1000000000000000, 1));
+    about_absent(print::over(1000000000000000, 1));
 }
 
 // Ten sums: the ends of what an average takes, just past them, the ends of the result's numerators, some between.
@@ -147,6 +171,26 @@ fn averages() {
     }
 }
 
+// A function of an empty set.
+fn empty(f: u8) {
+    print::say(b"empty ");
+    print::number(f as u64);
+    print::say(b" is ");
+    print::ratio(value::empty_of(f));
+    print::say(b"\n");
+}
+
+// Each function of an empty set, and codes past the last.
+fn empties() {
+    empty(0);
+    empty(1);
+    empty(2);
+    empty(3);
+    empty(4);
+    empty(5);
+    empty(255);
+}
+
 // A greatest common divisor.
 fn divisor(a: u64, b: u64) {
     print::say(b"gcd ");
@@ -174,8 +218,11 @@ fn divisors() {
 fn main() {
     orders();
     outsiders();
+    absents();
     averages();
+    empties();
     divisors();
     sets::ends();
+    sets::absents();
     sets::drawn();
 }

@@ -126,6 +126,36 @@ pub(crate) fn ends() {
     spoiled(&mut words);
 }
 
+// Rows with absent values, in no order.
+fn insert_absents(words: &mut [i64]) {
+    let none = value::absent();
+    insert_two(words, 0, print::over(0, 1), none);
+    insert_two(words, 1, print::over(7, 1), print::over(-1, 2));
+    insert_two(words, 2, none, print::over(3, 1));
+    insert_two(words, 3, print::over(-5, 1), none);
+}
+
+// Further ones, of which one is put twice and one is outside the bounds.
+fn insert_more_absents(words: &mut [i64]) {
+    let none = value::absent();
+    insert_two(words, 4, none, none);
+    insert_two(words, 5, none, none);
+    insert_two(words, 5, print::over(1, 0), none);
+    insert_two(words, 5, print::over(4, 1), none);
+}
+
+// A set with absent values: its order, its aggregates, and those of its first two rows, absent in the first column.
+pub(crate) fn absents() {
+    let mut words: [i64; 24] = [0; 24];
+    insert_absents(&mut words);
+    insert_more_absents(&mut words);
+    print::set(&words, 2, 12);
+    aggregates(&words, 2, 6, 0);
+    aggregate(&words, 2, 6, 2, 1);
+    aggregate(&words, 2, 6, 3, 1);
+    aggregates(&words, 2, 2, 0);
+}
+
 // A drawn number.
 struct Seed {
     x: u64,

@@ -3,7 +3,7 @@
 --   roomOf w            the values that w words hold; wordsOf k: the words of k values
 --   valueAt l p         the value at place p of the words l
 --   withValue l p v     l with v at place p
---   readAt l p          the value at place p; 0/0, which is no value, where l has no such place
+--   readAt l p          the value at place p; 0/0, which is absent, where l has no such place
 --   writable p l        l has a place p; wordsWith l p v: l with v there, l itself where it has no such place
 --   copyable m s l      s and l have m places each; wordsCopied m s l: l with the first m values of s in front, or l
 --   shifted p e m l     l with the words from p to e moved up by m

@@ -17,7 +17,7 @@ pub fn room(words: usize) -> usize
     words / 2
 }
 
-// The value at place p; past the end 0/0, which is no value.
+// The value at place p; past the end 0/0, which is absent.
 pub fn read(words: &[i64], p: usize) -> Value
     ensures { λ r. ⌜ r ≡ readAt (now (words .entry)) p ⌝ }
 {

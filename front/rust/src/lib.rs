@@ -48,11 +48,21 @@ mod archive {
 pub struct Answer {
     /// 0 if accepted, else the cause of refusal.
     pub number: u8,
-    /// The rows, each once, ascending by exact value, first column first; the same for every plan, budget and buffers. A value is
-    /// numerator and denominator, in lowest terms, the denominator positive.
+    /// The rows, each once, ascending by exact value, first column first and absent before every other value; the same for every
+    /// plan, budget and buffers. A value is numerator and denominator, in lowest terms, the denominator positive; or `absent`.
     pub rows: Vec<Vec<(i64, i64)>>,
     pub columns: usize,
     pub trials: u64,
+}
+
+/// Whether a value is absent: 0 and 0, as min, max and ave of no values are. Its cross products are 0, so ask for it before
+/// values are compared.
+///
+/// ```
+/// assert!(abe::absent((0, 0)) && !abe::absent((0, 1)) && !abe::absent((1823, 2)));
+/// ```
+pub fn absent(value: (i64, i64)) -> bool {
+    value == (0, 0)
 }
 
 /// The lent buffers of a run: three to work in and the result. They may have any length: shorter than the constants gets

@@ -12,12 +12,12 @@ use borrow.Author.Needs.{needs}
 use Rattle.value.proofs.average.Statement.{statement}
 use Rattle.value.proofs.average.Tie as tie
 
-empty-of-requires : tie.Need-empty-of-requires
-empty-of-requires c κs = search needs
+absent-requires : tie.Need-absent-requires
+absent-requires c κs = search needs
 
 returns : tie.Need-returns
 returns c =
-    ap mean.Of (c .empty-of .ensures)
+    ap mean.Of (c .absent .ensures)
     ∙ sym (ap (averageOf (c .before .before .args .sum)) (c .before .if1 .taken) ∙ average-none _)
 
 returns-2 : tie.Need-returns-2
@@ -48,4 +48,4 @@ returns-4 c =
 
 pub average-spec : {M : Type 1} → statement M
 average-spec =
-    tie.close (tie.spec empty-of-requires returns returns-2 small-sum-requires returns-3 lowest-requires returns-4)
+    tie.close (tie.spec absent-requires returns returns-2 small-sum-requires returns-3 lowest-requires returns-4)

@@ -62,13 +62,13 @@ fn run(job: &Job, budget: u64) -> Answer {
     run_on(BEFORE.get_or_init(filled), job, budget).0
 }
 
-/// The answer as the evaluator gives it. The values must be in lowest terms.
+/// The answer as the evaluator gives it. The values must be in lowest terms, or absent.
 fn told(answer: &Answer) -> Expected {
     let row = |row: &Vec<(i64, i64)>| -> Vec<Fraction> {
         row.iter().map(|(n, d)| Fraction { top: *n as i128, bottom: *d as i128 }).collect()
     };
     let rows: Vec<Vec<Fraction>> = answer.rows.iter().map(row).collect();
-    assert!(rows.iter().flatten().all(|v| v.bottom > 0 && *v == Fraction::new(v.top, v.bottom)));
+    assert!(rows.iter().flatten().all(|v| v.is_absent() || (v.bottom > 0 && *v == Fraction::new(v.top, v.bottom))));
     Expected { number: answer.number, rows: rows.into_iter().collect::<Set>(), columns: answer.columns, trials: answer.trials }
 }
 
@@ -78,7 +78,7 @@ fn j_with(paths: [(u8, u8); 2]) -> Job {
 
 #[test]
 fn job_j_by_every_path() {
-    let rows = vec![vec![(1, 1), (1823, 2)], vec![(2, 1), (905, 1)], vec![(3, 1), (0, 1)]];
+    let rows = vec![vec![(1, 1), (1823, 2)], vec![(2, 1), (905, 1)], vec![(3, 1), (0, 0)]];
     for (path, trials) in [((0, 0), 20), ((1, 1), 10), ((2, 1), 8)] {
         let job = j_with([(0, 0), path]);
         let wanted = Answer { number: 0, rows: rows.clone(), columns: 2, trials };
@@ -89,6 +89,28 @@ fn job_j_by_every_path() {
             assert_eq!(run(&job, budget), Answer { number: 12, rows: vec![], columns: 0, trials: budget });
         }
         assert_eq!(told(&wanted), evaluator::expected(&job.data, &job.question, &job.plan, BUDGET, PATIENCE).unwrap());
+    }
+}
+
+/// Request No. 3: pan 3 has no sample, and its average, compared by each operator with 0, with itself, or 0 with it, leaves it
+/// out; the pans 1 and 2 average 1823/2 and 905.
+#[test]
+fn absent_meets_no_comparison() {
+    let average = Aggregate { function: 4, block: 1, column: 1 };
+    let rows = [vec![(1, 1)], vec![(2, 1)]];
+    for (left, right, holding) in
+        [(average, Constant(0), [1, 4, 5]), (Constant(0), average, [1, 2, 3]), (average, average, [0, 3, 5])]
+    {
+        for operator in 0..6 {
+            let mut blocks = job_j_blocks();
+            blocks[0].conditions = vec![evaluator::Condition { operator, left, right }];
+            blocks[0].outputs.truncate(1);
+            for path in [(0, 0), (1, 1), (2, 1)] {
+                let job = Job { question: question_bytes(&blocks), ..j_with([(0, 0), path]) };
+                let wanted = if holding.contains(&operator) { &rows[..] } else { &[] };
+                assert_eq!(run(&job, BUDGET).rows, wanted);
+            }
+        }
     }
 }
 
@@ -167,7 +189,7 @@ fn plans_leave_the_same_words() {
     let mut r = Random::new(count_from("ABE_SEED", 1) + 2);
     let before = filled();
     let other = Buffers { result: vec![-1; RESULT_WORDS + 3 * SPARE], ..filled() };
-    let (mut questions, mut runs, mut rows, mut ratios) = (0, 0, 0, 0);
+    let (mut questions, mut runs, mut rows, mut ratios, mut absents) = (0, 0, 0, 0, 0);
     while questions < 1500 {
         let (mut job, blocks) = draw::job(&mut r);
         let (first, words) = run_on(&before, &job, PATIENCE);
@@ -176,7 +198,8 @@ fn plans_leave_the_same_words() {
         }
         questions += 1;
         rows += first.rows.len();
-        ratios += first.rows.iter().flatten().filter(|value| value.1 != 1).count();
+        ratios += first.rows.iter().flatten().filter(|value| value.1 > 1).count();
+        absents += first.rows.iter().flatten().filter(|value| abe::absent(**value)).count();
         for _ in 0..4 {
             job.plan = draw::plan(&mut r, &blocks);
             let (second, same) = run_on(&before, &job, BUDGET);
@@ -188,7 +211,8 @@ fn plans_leave_the_same_words() {
             runs += 2;
         }
     }
-    println!("the same words: {questions} questions, {runs} runs; {rows} rows, {ratios} values that are no wholes");
+    assert!(ratios > 0 && absents > 0);
+    println!("the same words: {questions} questions, {runs} runs; {rows} rows, {ratios} ratios, {absents} absent values");
 }
 
 #[test]

@@ -24,18 +24,17 @@ enum-told-2 c = search needs
 
 returns : tie.Need-returns
 returns c =
-    let a = c .before .before .before .before .before .before .before .args in
-    let s = c .before .before .before .before .before .t .given in
+    let s = c .before .before .before .before .before .before .t .given in
     let mean = c .before .before .before .average .ensures
-    ∙ ap (λ z. averageOf z (a .count)) (back (s .0 .0) (search needs)) in
-    sym (ap (λ t. averageIn t (a .count)) (s .1) ∙ ap meanIn (sym mean ∙ c .before .m .given .1))
+    ∙ ap (λ z. averageOf z (s .0 .0 .present)) (back (s .0 .0 .value) (search needs)) in
+    sym (ap averageIn (s .1) ∙ ap meanIn (sym mean ∙ c .before .m .given .1))
 
 returns-2 : tie.Need-returns-2
 returns-2 c =
-    let a = c .before .before .before .before .before .before .args in
-    let s = c .before .before .before .before .t .given in
-    let mean = c .before .before .average .ensures ∙ ap (λ z. averageOf z (a .count)) (back (s .0 .0) (search needs)) in
-    sym (ap (λ t. averageIn t (a .count)) (s .1) ∙ ap meanIn (sym mean ∙ c .enum-told .given .1))
+    let s = c .before .before .before .before .before .t .given in
+    let mean = c .before .before .average .ensures
+    ∙ ap (λ z. averageOf z (s .0 .0 .present)) (back (s .0 .0 .value) (search needs)) in
+    sym (ap averageIn (s .1) ∙ ap meanIn (sym mean ∙ c .enum-told .given .1))
 
 returns-3 : tie.Need-returns-3
 returns-3 c = search needs

@@ -2,8 +2,8 @@
 use mathlib.Core.Path.{sym, ap, _∙_}
 use lib.IntN.{pos}
 use Rattle.value.proofs.Ints.{back}
-use Rattle.aggregates.specs.declared.Aggregate.the-variants as aggregate
 use Rattle.aggregates.specs.Folds.{sumIn}
+use Rattle.aggregates.specs.declared.Aggregate.the-variants as aggregate
 use borrow.Author.Needs.{needs}
 use Rattle.aggregates.proofs.column.as_sum.Statement.{statement}
 use Rattle.aggregates.proofs.column.as_sum.Tie as tie
@@ -16,8 +16,9 @@ enum-told c = search needs
 
 returns : tie.Need-returns
 returns c =
-    ap (λ z. aggregate.Of (record { num = z; den = pos 1 })) (back (c .before .t .given .0 .0) (search needs))
-    ∙ sym (ap sumIn (c .before .t .given .1))
+    let s = c .before .before .t .given in
+    ap (λ z. aggregate.Of (record { num = z; den = pos 1 })) (back (s .0 .0 .value) (search needs))
+    ∙ sym (ap sumIn (s .1))
 
 returns-2 : tie.Need-returns-2
 returns-2 c = search needs

@@ -1,56 +1,38 @@
--- `column::better` meets its contract: greatest or least, the second or the first. Assumes nothing.
-use mathlib.Core.Path.{sym, ap, _∙_}
-use Rattle.aggregates.specs.Folds.{isLess}
-use Rattle.aggregates.proofs.ExtremeLoop.{greater-yes, greater-no, lesser-yes, lesser-no}
+-- `column::better` meets its contract: the second absent, the first, neither. Assumes nothing.
+use mathlib.Core.Path.{sym, _∙_}
+use borrow.Author.Tests.{not-true, not-false}
+use Rattle.aggregates.proofs.ExtremeLoop.{better-first, better-second, better-chosen}
 use borrow.Author.Needs.{needs}
 use Rattle.aggregates.proofs.column.better.Statement.{statement}
 use Rattle.aggregates.proofs.column.better.Tie as tie
 
-order-requires : tie.Need-order-requires
-order-requires c κs = search needs
-
-is-less-requires : tie.Need-is-less-requires
-is-less-requires c κs = search needs
+present-requires : tie.Need-present-requires
+present-requires c κs = search needs
 
 returns : tie.Need-returns
 returns c =
-    let a = c .before .before .before .before .args in
-    let less = sym (c .before .is-less .ensures ∙ ap isLess (c .before .before .order .ensures)) in
-    greater-yes (a .x) (a .y) (a .greatest) (c .before .before .before .if1 .taken) (less ∙ c .if2 .taken)
+    better-first (c .before .before .args .greatest) _ _
+    (sym (c .before .present .ensures) ∙ not-true _ (c .if1 .taken))
+
+present-requires-2 : tie.Need-present-requires-2
+present-requires-2 c κs = search needs
 
 returns-2 : tie.Need-returns-2
 returns-2 c =
-    let a = c .before .before .before .before .args in
-    let less = sym (c .before .is-less .ensures ∙ ap isLess (c .before .before .order .ensures)) in
-    greater-no (a .x) (a .y) (a .greatest) (c .before .before .before .if1 .taken) (less ∙ c .if2 .left)
+    better-second (c .before .before .before .before .args .greatest) _ _
+    (sym (c .before .before .before .present .ensures) ∙ not-false _ (c .before .before .if1 .left))
+    (sym (c .before .present2 .ensures) ∙ not-true _ (c .if2 .taken))
 
-order-requires-2 : tie.Need-order-requires-2
-order-requires-2 c κs = search needs
-
-is-less-requires-2 : tie.Need-is-less-requires-2
-is-less-requires-2 c κs = search needs
+chosen-requires : tie.Need-chosen-requires
+chosen-requires c κs = search needs
 
 returns-3 : tie.Need-returns-3
 returns-3 c =
-    let a = c .before .before .before .before .args in
-    let less = sym (c .before .is-less2 .ensures ∙ ap isLess (c .before .before .order2 .ensures)) in
-    lesser-yes (a .x) (a .y) (a .greatest) (c .before .before .before .if1 .left) (less ∙ c .if3 .taken)
-
-returns-4 : tie.Need-returns-4
-returns-4 c =
-    let a = c .before .before .before .before .args in
-    let less = sym (c .before .is-less2 .ensures ∙ ap isLess (c .before .before .order2 .ensures)) in
-    lesser-no (a .x) (a .y) (a .greatest) (c .before .before .before .if1 .left) (less ∙ c .if3 .left)
+    c .chosen .ensures
+    ∙ better-chosen (c .before .before .before .before .before .args .greatest) _ _
+    (sym (c .before .before .before .before .present .ensures) ∙ not-false _ (c .before .before .before .if1 .left))
+    (sym (c .before .before .present2 .ensures) ∙ not-false _ (c .before .if2 .left))
 
 pub better-spec : {M : Type 1} → statement M
 better-spec =
-    tie.close
-    (tie.spec
-    order-requires
-    is-less-requires
-    returns
-    returns-2
-    order-requires-2
-    is-less-requires-2
-    returns-3
-    returns-4)
+    tie.close (tie.spec present-requires returns present-requires-2 returns-2 chosen-requires returns-3)

@@ -1,18 +1,16 @@
 -- `column::sum_column` meets its contract: `Summing` holds before each turn. Assumes nothing.
 use Prim.Native.Nat.{_-_}
 use native.Mathlib.Omega.{arith}
-use mathlib.Core.Path.{sym, ap, _∙_}
+use mathlib.Core.Path.{sym, _∙_}
 use borrow.Author.Tests.{not-true, not-false}
-use Rattle.value.proofs.Ints.{read-back}
-use Rattle.aggregates.specs.declared.Total.the-variants as of-total
 use Rattle.words.proofs.WordLaws.{product-few}
-use Rattle.aggregates.proofs.ColumnLaws.{so, column-read}
 use Rattle.aggregates.proofs.SumLoop.{Summing, summing-begin, summing-more, summing-stop, summing-end}
+use Rattle.aggregates.proofs.ColumnLaws.{so, column-read}
 use Rattle.aggregates.proofs.column.sum_column.Statement.{statement}
 use Rattle.aggregates.proofs.column.sum_column.Tie as tie
 
 abbrev Inv-loop : tie.InvT-loop
-Inv-loop words n count c t₀ j₀ r₀ t j r = Summing n words c count (t .value) j r
+Inv-loop words n count c t₀ j₀ r₀ t j r = Summing n words c count t j r
 
 abbrev μ-loop : tie.MeasureT-loop
 μ-loop words n count c t₀ j₀ r₀ t j r = count - r
@@ -30,29 +28,31 @@ returns : tie.Need-returns Inv-loop μ-loop
 returns c =
     let a = c .before .before .before .before .before .args in
     let l = c .before .before .before .before .loop in
-    let lt = c .before .before .before .loop-test .taken in
     let pre = c .before .before .before .before .before .pre in
+    let lt = c .before .before .before .loop-test .taken in
     let is = column-read (a .words .now) (a .n) (a .count) (a .c) (l .r) (l .j) lt (pre .2) (pre .3) (l .inv .place) _
     (c .before .before .read .ensures) in
-    let outside = sym (c .before .inside .ensures) ∙ not-true _ (c .if1 .taken) in
-    summing-stop (a .n) (a .words .now) (a .c) (a .count) (l .t .value) (l .j) (l .r) (l .inv)
-    lt (c .before .before .read .result) is outside
+    summing-stop (a .n) (a .words .now) (a .c) (a .count) (l .t) (l .j) (l .r) (l .inv) lt
+    (c .before .before .read .result) is (sym (c .before .inside .ensures) ∙ not-true _ (c .if1 .taken))
 
 plus-requires : tie.Need-plus-requires Inv-loop μ-loop
 plus-requires c κs =
-    let l = c .before .before .before .before .loop in
-    let inside = sym (c .before .inside .ensures) ∙ not-false _ (c .if1 .left) in
-    (omega (arith, l .inv .small, l .inv .within), so _ inside)
+    let l = c .before .before .before .before .loop in (
+      omega (arith, l .inv .small, l .inv .within),
+      omega (arith, l .inv .few, l .inv .within),
+      so _
+          (sym (c .before .inside .ensures) ∙ not-false _ (c .if1 .left)),
+    )
 
 add-j : tie.Need-add-j Inv-loop μ-loop
 add-j c =
-    let a = c .before .before .before .before .before .before .args in
-    let l = c .before .before .before .before .before .loop in
     let lt = c .before .before .before .before .loop-test .taken in
     omega (
       arith,
-      product-few (l .r) (a .n) 256 (omega arith) (c .before .before .before .before .before .before .pre .0),
-      l .inv .place,
+      product-few (c .before .before .before .before .before .loop .r)
+          (c .before .before .before .before .before .before .args .n) 256 (omega arith)
+          (c .before .before .before .before .before .before .pre .0),
+      c .before .before .before .before .before .loop .inv .place,
     )
 
 add-r : tie.Need-add-r Inv-loop μ-loop
@@ -65,22 +65,20 @@ loop-again : tie.Need-loop-again Inv-loop μ-loop
 loop-again c =
     let a = c .before .before .before .before .before .before .args in
     let l = c .before .before .before .before .before .loop in
-    let lt = c .before .before .before .before .loop-test .taken in
     let pre = c .before .before .before .before .before .before .pre in
+    let lt = c .before .before .before .before .loop-test .taken in
     let is = column-read (a .words .now) (a .n) (a .count) (a .c) (l .r) (l .j) lt (pre .2) (pre .3) (l .inv .place) _
     (c .before .before .before .read .ensures) in
-    let inside = sym (c .before .before .inside .ensures) ∙ not-false _ (c .before .if1 .left) in
-    summing-more (a .n) (a .words .now) (a .c) (a .count) (l .t .value) (l .j) (l .r) (l .inv)
-    lt (c .before .before .before .read .result) is inside
-    (c .plus .result .value) (c .plus .ensures)
+    summing-more (a .n) (a .words .now) (a .c) (a .count) (l .t) (l .j) (l .r) (l .inv) lt
+    (c .before .before .before .read .result) is
+    (sym (c .before .before .inside .ensures) ∙ not-false _ (c .before .if1 .left)) (c .plus .result)
+    (c .plus .ensures)
 
 returns-2 : tie.Need-returns-2 Inv-loop μ-loop
 returns-2 c =
-    let a = c .before .before .before .args in
-    let l = c .before .before .loop in
-    ap of-total.Of (read-back (l .t .value) (omega (arith, l .inv .small, l .inv .within)))
-    ∙ summing-end (a .n) (a .words .now) (a .c) (a .count) (l .t .value) (l .j) (l .r) (l .inv)
-    (c .before .loop-test .left)
+    let a = c .before .before .args in
+    let l = c .before .loop in
+    summing-end (a .n) (a .words .now) (a .c) (a .count) (l .t) (l .j) (l .r) (l .inv) (c .loop-test .left)
 
 pub sum-column-spec : {M : Type 1} → statement M
 sum-column-spec =
