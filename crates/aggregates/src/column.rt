@@ -33,7 +33,7 @@ pub(crate) fn plus(t: Sum, v: Value) -> Sum
     }
 }
 
-// The sum of the values of a column, and how many are there.
+// The sum of the values of a column, and how many are present.
 pub(crate) fn sum_column(words: &[i64], n: usize, count: usize, c: usize) -> Total
     requires { ⌜ (n ≤ 4) × (count ≤ 256) × (c < n) × (count * n ≤ roomOf (length (now words))) ⌝ }
     ensures { λ r. ⌜ r ≡ totalOf (columnIn n (now (words .entry)) c count) ⌝ }
@@ -97,7 +97,7 @@ pub(crate) fn better(x: Value, y: Value, greatest: bool) -> Value
     chosen(x, y, greatest)
 }
 
-// The greatest or the least value of a column; absent where no value is there.
+// The greatest or the least value of a column; absent where none is present.
 pub(crate) fn extreme(words: &[i64], n: usize, count: usize, c: usize, greatest: bool) -> Aggregate
     requires { ⌜ (n ≤ 4) × (count ≤ 256) × (c < n) × (count * n ≤ roomOf (length (now words))) ⌝ }
     ensures { λ r. ⌜ r ≡ extremeOf greatest (columnIn n (now (words .entry)) c count) ⌝ }
@@ -130,7 +130,7 @@ pub(crate) fn as_sum(t: Total) -> Aggregate
     }
 }
 
-// A sum over how many values are there, as an aggregate.
+// A sum over how many values are present, as an aggregate.
 pub(crate) fn as_average(t: Total) -> Aggregate
     ensures { λ r. ⌜ r ≡ averageIn t ⌝ }
 {

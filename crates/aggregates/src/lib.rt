@@ -10,7 +10,7 @@ use value::Value;
 ghost use mathlib.Core.Path.{_≡_};
 ghost use Rattle.aggregates.specs.Columns.{aggregateIn};
 
-// The sum so far of a column, and how many of its values are there.
+// The sum so far of a column, and how many of its values are present.
 pub(crate) struct Sum {
     pub(crate) value: i64,
     pub(crate) present: u64,

@@ -24,7 +24,7 @@ use Rattle.value.specs.declared.Verdict.the-variants as verdict
 use Rattle.value.specs.Exact.{exact, inWords, insideOf, Fair, tell, orderOf, holdsOf, says}
 use Rattle.value.proofs.Ints.{abs-zero, abs-mul-le, sfits-abs, read-back}
 
--- a value that is there has a denominator, absent is 0 over 0
+-- a value that is present has a denominator, an absent one none
 pub present-some : (v : Value) → model.present (exact v) ≡ true → 0 < natAbs (v .den)
 unfolding model.present
 present-some v e = ltb-true 0 (natAbs (v .den)) e
@@ -182,7 +182,7 @@ module _ (x y : Value) (p : T (insideOf x)) (q : T (insideOf y)) where
       go (suc d) (suc e) h =
           absurd (subst T (sym (ap₂ _&&_ (lt-ltb 0 (suc d) (omega arith)) (lt-ltb 0 (suc e) (omega arith))) ∙ h) tt)
 
--- an operator by the order; met only where both values are there
+-- an operator by the order; met only where both values are present
 abbrev pub judge : ℕ → Bool → Compared → Verdict
 judge op there Less = says (there && testOf op Ordering·lt)
 judge op there Equal = says (there && testOf op Ordering·eq)

@@ -10,9 +10,9 @@
 --   emptyOf f          function f (0 count, 1 sum, 2 min, 3 max, 4 and above ave) of an empty set: zero for count and
 --                      sum, else absent (proofs/Empty: the model's)
 --   averageOf s n      s over n in lowest terms; absent where n is 0; Outside for n > 256 or |s| > 256 × 10^15
-use mathlib.Core.Path.{_≡_}
 use Prim.Native.Nat.{ℕ, zero, suc, _≤_, Ordering, Ordering·lt, Ordering·eq, Ordering·gt}
 use mathlib.Core.Bool.{Bool, true, false, _&&_, cond}
+use mathlib.Core.Path.{_≡_}
 use lib.Dec.{eqb, leb}
 use lib.IntN.{ℤ, pos, natAbs}
 use lib.Signed.{leZ}

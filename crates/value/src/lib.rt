@@ -41,14 +41,14 @@ pub enum Mean {
     Outside,
 }
 
-// The value of no value: min, max and ave of an empty set.
+// Absent: what min, max and ave of no values are.
 pub fn absent() -> Value
     ensures { λ r. ⌜ r ≡ inWords absent ⌝ }
 {
     Value { num: 0, den: 0 }
 }
 
-// A value is there: its denominator is not 0.
+// A value is present: its denominator is not 0.
 pub fn present(x: Value) -> bool
     ensures { λ r. ⌜ r ≡ present (exact x) ⌝ }
 {
