@@ -18,10 +18,12 @@ extern "C" {
 /* Numbers. The lowest that applies is given; 0 is accepted. */
 #define ABE_OK           0  /* accepted */
 #define ABE_WORK_SHORT   1  /* sets, files or indexes shorter than below, or fewer than four words for the figures */
-#define ABE_RESULT_SHORT 2  /* result under 2,048 words; of abe_index: out has fewer words than the table has rows */
+#define ABE_RESULT_SHORT 2  /* result under 2,048 words; of abe_index: out has fewer words than the table has rows; of
+                               abe_chart: met has no byte */
 #define ABE_DATA_LAYOUT  3  /* data: counts, length or layout */
 #define ABE_DATA_VALUE   4  /* data: a value out of -1,000,000 to 1,000,000 */
-#define ABE_MALFORMED    5  /* question: records or their order, kinds, codes, argument bytes that must be 0, cut or tail */
+#define ABE_MALFORMED    5  /* question: records or their order, kinds, codes, argument bytes that must be 0, cut or tail;
+                               of abe_chart: operation over 5 or relation over 3 */
 #define ABE_COUNT        6  /* question: too many or no blocks or output columns, too many RW, CD or aggregates of a block */
 #define ABE_ABSENT       7  /* question: absent table, column or parent, entry count not the table's columns, variable not
                                0 to 15, fifth level, aggregate not of a child; of abe_index: absent table or column */
@@ -41,13 +43,19 @@ extern "C" {
 #define ABE_KIND_FIXED     3  /* the number of a variable of an ancestor, 0 to 15; in RW and CD */
 #define ABE_KIND_AGGREGATE 4  /* argument byte 0 the function, byte 1 the block, byte 2 its output column; in CD and OL */
 
-/* Operators of a condition: the byte after CD. */
+/* Operators of a condition: the byte after CD, and the operation of abe_chart. */
 #define ABE_OPERATOR_EQUAL         0
 #define ABE_OPERATOR_NOT_EQUAL     1
 #define ABE_OPERATOR_LESS          2
 #define ABE_OPERATOR_LESS_EQUAL    3
 #define ABE_OPERATOR_GREATER       4
 #define ABE_OPERATOR_GREATER_EQUAL 5
+
+/* How the first of two values stands to the second: the relation of abe_chart. No byte of a question has it. */
+#define ABE_RELATION_LESS    0
+#define ABE_RELATION_EQUAL   1
+#define ABE_RELATION_GREATER 2
+#define ABE_RELATION_ABSENT  3  /* one of the two values is absent, or both */
 
 /* Functions of an aggregate. */
 #define ABE_FUNCTION_COUNT 0  /* its column is 0 */
@@ -108,6 +116,13 @@ uint8_t abe_run(const int32_t *words, size_t words_len,
 uint8_t abe_index(const int32_t *words, size_t words_len,
                   uint32_t table, uint32_t column,
                   uint16_t *out, size_t out_len);
+
+/* The chart of the operators: whether a condition of this operation is met by two values that stand in this relation.
+ * Where one of them is absent, or both, none is met. Returns 0, or 2 (met has no byte) or 5 (operation over 5, relation
+ * over 3), in this order. met[0] is 1 where the condition is met and 0 where it is not; bytes past it are kept, and all of
+ * them by a refusal. */
+uint8_t abe_chart(uint32_t operation, uint32_t relation,
+                  uint8_t *met, size_t met_len);
 
 #ifdef __cplusplus
 }

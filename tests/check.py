@@ -30,9 +30,9 @@ STORED = HERE / "stored"
 JOBS_SEED, JOBS = 4749, 260
 INDEX_SEED, INDEX_CALLS = 474, 60
 MOST_PLANS = 24
-PROGRAMS = {"value_expected.py": "value_test", "tables_expected.py": "tables_test",      # who computes the stdout of
-            "reader_expected.py": "reader_test", "cases_expected.py": "cases", "listing_expected.py": "listing",
-            "listings_expected.py": "listings", "budgeted_expected.py": "budgeted"}
+PROGRAMS = {"chart_expected.py": "chart_test", "value_expected.py": "value_test",        # who computes the stdout of
+            "tables_expected.py": "tables_test", "reader_expected.py": "reader_test", "cases_expected.py": "cases",
+            "listing_expected.py": "listing", "listings_expected.py": "listings", "budgeted_expected.py": "budgeted"}
 INPUTS = {"reader_jobs.py": "reader_test", "cases_jobs.py": "cases", "listing_job.py": "listing",   # .. the stdin of
           "listings_jobs.py": "listings", "budgeted_job.py": "budgeted"}
 

@@ -56,9 +56,13 @@ def orders():
     for x in values:
         for y in values:
             yield order_line(x, y)
-    one = (1, 1)
+    for x, y in [((2, 4), (1, 2)), ((1, 2), (2, 4)), ((-128, 256), (-1, 2)), ((255, 255), (256, 256)),
+                 ((END, 256), (END // 256, 1)), ((127, 256), (1, 2)), ((129, 256), (1, 2))]:
+        yield order_line(x, y)
+    one, none = (1, 1), (0, 0)
     for x, y in [((BOUND + 1, 1), one), (one, (-BOUND - 1, 1)), ((0, 257), one), (one, (1, 0)), ((1, -1), one),
-                 ((-2**63, 1), one), (one, (2**63 - 1, 256))]:
+                 ((-2**63, 1), one), (one, (2**63 - 1, 256)), ((BOUND + 1, 1), none), (none, (-BOUND - 1, 1)),
+                 ((-2**63, 1), none), (none, (2**63 - 1, 256))]:
         yield order_line(x, y)
 
 
@@ -68,6 +72,14 @@ def absents():
     for x in values:
         for y in values:
             yield order_line(x, y)
+
+
+def past_the_last():
+    """Operators over 5, which no accepted question has, are read as the last."""
+    one, none = (1, 1), (0, 0)
+    for x, y in [(one, (2, 1)), (one, one), (one, (1, 2)), (none, one), (one, none), (none, none), ((1, 257), one)]:
+        answer = order_line(x, y).split()[-1]
+        yield f"past the last {text(x)} {text(y)} 6 {answer} 255 {answer}"
 
 
 # ---- averages and divisors
@@ -228,6 +240,7 @@ def drawn():
 
 if __name__ == "__main__":
     help_first(__doc__)
-    for part in (orders(), absents(), averages(), empties(), divisors(), ends(), absent_rows(), drawn()):
+    for part in (orders(), absents(), past_the_last(), averages(), empties(), divisors(), ends(), absent_rows(),
+                 drawn()):
         for line in part:
             print(line)

@@ -37,6 +37,19 @@ def constants():
 
 ABSENT = "if left is None or right is None:\n        "
 ABSENT_MEETS_NONE = f"{ABSENT}return False"
+ANSWERS = "[left == right, left != right, left < right, left <= right, left > right, left >= right][operator]"
+
+
+def operators():
+    """Each operator answered the other way at less, equal and greater, and met where one value is absent, or both."""
+    for operator, name in enumerate(["equal", "not_equal", "less", "at_most", "greater", "at_least"]):
+        for relation, sign in [("less", "<"), ("equal", "=="), ("greater", ">")]:
+            yield (f"{name}_turned_at_{relation}", MATCHING, ANSWERS,
+                   f"{ANSWERS} != (operator == {operator} and left {sign} right)")
+        for which, test in [("left", "right is not None"), ("right", "left is not None"), ("both", "left is right")]:
+            yield (f"{name}_met_by_absent_{which}", MATCHING, ABSENT_MEETS_NONE,
+                   f"{ABSENT}return operator == {operator} and {test}")
+
 
 OTHERS = [
     # data and index
@@ -100,7 +113,9 @@ OTHERS = [
     ("variable_rebound", MATCHING, "isinstance(entry, Variable) and wider.setdefault(entry.number, value) != value",
      "isinstance(entry, Variable) and wider.update({entry.number: value})"),
     ("constant_not_compared", MATCHING, "isinstance(entry, Constant) and entry.value", "False and entry.value"),
-    ("less_or_equal_strict", MATCHING, "left < right, left <= right", "left < right, left < right"),
+    ("less_and_greater_swapped", MATCHING, "left < right, left <= right, left > right,",
+     "left > right, left <= right, left < right,"),
+    ("operands_swapped", MATCHING, f"return {ANSWERS}", f"left, right = right, left\n    return {ANSWERS}"),
     ("plain_conditions_ignored", MATCHING, "if all(self.holds(condition, match, {}) for condition in plain)]", "]"),
     ("children_only_for_conditions", MATCHING, "for aggregate in block.aggregates()})",
      "for c in block.conditions for aggregate in c.elements() if isinstance(aggregate, Aggregate)})"),
@@ -212,7 +227,7 @@ def tried(variant):
 
 
 def main(names):
-    chosen = [variant for variant in [*constants(), *OTHERS] if not names or variant[0] in names]
+    chosen = [variant for variant in [*constants(), *operators(), *OTHERS] if not names or variant[0] in names]
     missed = 0
     with ThreadPoolExecutor(os.cpu_count()) as pool:
         for name, said, error in pool.map(tried, chosen):

@@ -1,6 +1,6 @@
 /* Job J of the scope paper from C: which pans there are, and the average Brix of each pan's samples. The question and the
  * plan are put together record by record, the answer is printed as the program `listing` prints it. Then the rows' order
- * and words by every path, three refusals and an index. */
+ * and words by every path, three refusals, an index, and the chart of the operators. */
 #include <inttypes.h>
 #include <stdio.h>
 #include <string.h>
@@ -113,6 +113,71 @@ static size_t plan_j(uint8_t *plan, unsigned way, unsigned column) {
     return used;
 }
 
+/* Three pairs of integers that are less, three that are equal, three that are greater. */
+static const int64_t pairs[3][3][2] = {{{904, 905}, {-2, -1}, {INT64_MIN, INT64_MAX}},
+                                       {{0, 0}, {-7, -7}, {INT64_MAX, INT64_MAX}},
+                                       {{906, 905}, {0, -1}, {INT64_MAX, INT64_MIN}}};
+
+/* Whether two integers meet an operator, as C has it. */
+static int meets(unsigned operation, int64_t x, int64_t y) {
+    switch (operation) {
+    case ABE_OPERATOR_EQUAL: return x == y;
+    case ABE_OPERATOR_NOT_EQUAL: return x != y;
+    case ABE_OPERATOR_LESS: return x < y;
+    case ABE_OPERATOR_LESS_EQUAL: return x <= y;
+    case ABE_OPERATOR_GREATER: return x > y;
+    default: return x >= y;
+    }
+}
+
+/* Whether an answer of the chart is that of C for all three pairs that stand so; absent meets nothing. */
+static int as_in_c(unsigned operation, unsigned relation, unsigned answer) {
+    if (relation == ABE_RELATION_ABSENT) return answer == 0;
+    for (int i = 0; i < 3; i++)
+        if (answer != (unsigned)meets(operation, pairs[relation][i][0], pairs[relation][i][1])) return 0;
+    return 1;
+}
+
+/* Four bytes, some of them lent to the chart; whether it has kept the others, and all of them by every refusal. */
+static uint8_t met[4];
+static int met_kept = 1;
+
+/* One call of the chart, the bytes being 6 to 9 before it. */
+static unsigned chart(uint32_t operation, uint32_t relation, size_t lent) {
+    for (size_t i = 0; i < 4; i++) met[i] = (uint8_t)(6 + i);
+    unsigned number = abe_chart(operation, relation, met, lent);
+    for (size_t i = number == ABE_OK ? 1 : 0; i < 4; i++) met_kept &= met[i] == 6 + i;
+    return number;
+}
+
+/* The chart: for each operator the answers at less, equal, greater and absent. */
+static void print_chart(void) {
+    static const char *const names[] = {"=", "!=", "<", "<=", ">", ">="};
+    int same = 1;
+    for (unsigned operation = ABE_OPERATOR_EQUAL; operation <= ABE_OPERATOR_GREATER_EQUAL; operation++) {
+        printf("chart %s:", names[operation]);
+        for (unsigned relation = ABE_RELATION_LESS; relation <= ABE_RELATION_ABSENT; relation++) {
+            for (size_t lent = 1; lent <= 4; lent++)
+                same &= chart(operation, relation, lent) == ABE_OK && as_in_c(operation, relation, met[0]);
+            printf(" %u", (unsigned)met[0]);
+        }
+        putchar('\n');
+    }
+    printf("chart %s\n", same ? "as C has it" : "NOT AS C HAS IT");
+}
+
+/* Operations and relations that are none, with one to four bytes lent and without one. */
+static void print_chart_refusals(void) {
+    static const uint32_t none[][2] = {{6, 0}, {0, 4}, {UINT32_MAX, 3}, {3, UINT32_MAX}, {256, 0}, {0, 256}, {6, 4}};
+    for (size_t i = 0; i < sizeof none / sizeof none[0]; i++) {
+        printf("chart %" PRIu32 " %" PRIu32 ": no", none[i][0], none[i][1]);
+        for (size_t lent = 1; lent <= 4; lent++) printf(" %u", chart(none[i][0], none[i][1], lent));
+        printf(", without a byte no %u\n", chart(none[i][0], none[i][1], 0));
+    }
+    printf("chart 0 1: without a byte no %u\n", chart(ABE_OPERATOR_EQUAL, ABE_RELATION_EQUAL, 0));
+    printf("met %s\n", met_kept ? "kept" : "CHANGED");
+}
+
 int main(void) {
     /* Two tables: pan (one column, four rows); sample, pan, tenths of Brix (three columns, four rows). */
     static const int32_t words[] = {2, 1, 4, 3, 4,
@@ -158,5 +223,8 @@ int main(void) {
     printf("index of Brix: %u;", number);
     for (int i = 0; i < 4; i++) printf(" %u", (unsigned)order[i]);
     putchar('\n');
+
+    print_chart();
+    print_chart_refusals();
     return 0;
 }

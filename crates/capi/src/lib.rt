@@ -1,15 +1,18 @@
 // The engine as C and Rust programs link it: numbers and slices only, a slice as a pointer and its length. An answer's
-// four figures go into lent words: number, rows, columns, trials. Where these are fewer than four, that is number 1, as of
-// a work buffer that is short, and nothing is changed anywhere.
+// four figures go into lent words: number, rows, columns, trials. Where these are fewer than four, that is number 1, as
+// of a work buffer that is short, and nothing is changed anywhere.
+use chart::Relation;
 use model::Answer;
 ghost use Prim.Native.Nat.{_≤_};
+ghost use mathlib.Core.Bool.{cond};
 ghost use mathlib.Core.Path.{_≡_};
 ghost use lib.ListN.{length};
+ghost use Rattle.chart.specs.Chart.{caseOf, chartOf};
 ghost use Rattle.engine.specs.Runs.{lengthsOf};
 ghost use Rattle.model.specs.Answer.{answerOf, resultAfter, setsAfter, filesAfter, indexesAfter};
 ghost use Rattle.model.specs.Index.{indexNumber, indexAfter};
 ghost use Rattle.model.specs.Lists.{overwrite};
-ghost use Rattle.capi.specs.Calls.{figuresIn, given};
+ghost use Rattle.capi.specs.Calls.{figuresIn, given, relationAt, chartNumber, chartAfter};
 
 // The figures of an answer put into the first four words.
 fn put_figures(a: Answer, figures: &mut [u64])
@@ -85,4 +88,40 @@ pub extern "C" fn abe_index(words: &[i32], table: u32, column: u32, out: &mut [u
         return number;
     }
     7
+}
+
+// The relation of a number: 0 less, 1 equal, 2 greater, 3 and above absent.
+fn relation_at(n: u32) -> Relation
+    ensures { λ r. ⌜ r ≡ relationAt n ⌝ }
+{
+    match n {
+        0 => Relation::Less,
+        1 => Relation::Equal,
+        2 => Relation::Greater,
+        _ => Relation::Absent,
+    }
+}
+
+// The chart's answer as a byte: 1 met, 0 not met.
+fn met_byte(op: u8, r: Relation) -> u8
+    ensures { λ b. ⌜ b ≡ cond (chartOf (caseOf op r)) 1 0 ⌝ }
+{
+    if chart::meets(op, r) { 1 } else { 0 }
+}
+
+// The chart of the operators (chart::meets): its answer in the first lent byte. No byte lent is number 2, an operator
+// over 5 or a relation over 3 is number 5, and both change nothing.
+#[no_mangle]
+pub extern "C" fn abe_chart(operation: u32, relation: u32, met: &mut [u8]) -> u8
+    ensures number { λ r. ⌜ r ≡ chartNumber operation relation (length (now (met .entry))) ⌝ }
+    ensures met { λ _. ⌜ now (met .exit) ≡ chartAfter operation relation (now (met .entry)) ⌝ }
+{
+    if met.len() == 0 {
+        return 2;
+    }
+    if (operation > 5) | (relation > 3) {
+        return 5;
+    }
+    met[0] = met_byte(operation as u8, relation_at(relation));
+    0
 }

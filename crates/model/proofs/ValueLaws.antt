@@ -1,19 +1,22 @@
 -- Integers and values in order: the order of values that are in lowest terms or absent is linear; `ratio` gives lowest
 -- terms and the same value.
 --   linearZ            the order of integers is linear; linearPresent: that of values in lowest terms
+--   is-less, is-greater, is-equal   the machine's tests of two integers tell their order
 --   Lowest x           x is in lowest terms; Proper x: or absent
 --   linearValue        the order of proper values is linear, so equal ones are the same numerator and denominator
 --   absent-before       absent stands before every value that is present; absent-same: and is equal to itself
 --   absent-meets-nothing   absent meets no operator, on either side
-use Prim.Native.Nat.{ℕ, zero, suc, _*_, _/_, _<_, compare, Ordering, Ordering·lt, Ordering·eq, Ordering·gt}
+use Prim.Native.Nat.{ℕ, zero, suc, _*_, _/_, _<_, _≤_, compare, Ordering, Ordering·lt, Ordering·eq, Ordering·gt}
 use Prim.Native.Nat.{compare·zero-suc, compare·suc-zero, compare·suc-suc}
 use native.Mathlib.Nat.{mul-lt-mul-of-pos-right, mul-pos, zero-mul, mul-one, mul-div-cancel', eq-of-mul-eq-mul-left}
 use native.Mathlib.Nat.{pos-of-dvd-of-pos, eq-one-of-dvd-one}
 use native.Mathlib.Omega.{arith}
-use mathlib.Core.Bool.{Bool, true, false, _&&_}
+use mathlib.Core.Bool.{true, false}
 use mathlib.Core.Path.{_≡_, refl, sym, _∙_, ap, ap₂, subst}
+use borrow.Author.Tests.{ltb-true, ltb-false}
 use lib.Dec.{T, isEq, eqb→eq, ltb, leb·zero, leb·suc-suc}
 use lib.IntN.{ℤ, pos, negsuc, natAbs, negℤ, _*ℤ_}
+use lib.Signed.{ltZ}
 use Rattle.model.specs.Value.{Value, whole, absent, present, gcd, divZ, ratio, compareZ, orderPresent}
 use Rattle.model.specs.Value.{absentFirst, testOf, order, meets}
 use Rattle.model.proofs.GcdLaws.{scale, gcd-left, gcd-right, pos-factor, coprime-den}
@@ -83,8 +86,8 @@ linearZ = record {
     chain (negsuc k) (pos m) (negsuc n) e f = cc
     chain (negsuc k) (negsuc m) (negsuc n) e f = compare-chain n m k f e
 
--- a positive factor changes no comparison
-compare-lt : (m n : ℕ) → m < n → compare m n ≡ Ordering·lt
+-- a native comparison from what holds of the numbers, and back
+pub compare-lt : (m n : ℕ) → m < n → compare m n ≡ Ordering·lt
 compare-lt zero zero h = absurd (omega arith)
 compare-lt zero (suc n) h = compare·zero-suc n
 compare-lt (suc m) zero h = absurd (omega arith)
@@ -96,11 +99,37 @@ lt-compare zero (suc n) e = omega arith
 lt-compare (suc m) zero e = let z : _≡_ {A = ℕ} 0 1 = cc (compare·suc-zero m) in absurd (omega arith)
 lt-compare (suc m) (suc n) e = omega (arith, lt-compare m n (sym (compare·suc-suc m n) ∙ e))
 
-compare-gt : (m n : ℕ) → n < m → compare m n ≡ Ordering·gt
+pub compare-gt : (m n : ℕ) → n < m → compare m n ≡ Ordering·gt
 compare-gt zero n h = absurd (omega arith)
 compare-gt (suc m) zero h = compare·suc-zero m
 compare-gt (suc m) (suc n) h = compare·suc-suc m n ∙ compare-gt m n (omega arith)
 
+compare-eq : (m n : ℕ) → n ≤ m → m ≤ n → compare m n ≡ Ordering·eq
+compare-eq m n h k = let e : m ≡ n = omega arith in rw e (compare-self n)
+
+-- the machine's tests of two integers tell their order
+pub is-less : (a b : ℤ) → ltZ a b ≡ true → compareZ a b ≡ Ordering·lt
+unfolding compareZ
+is-less (pos m) (pos n) e = compare-lt m n (ltb-true m n e)
+is-less (pos m) (negsuc n) e = absurd (subst T (sym e) tt)
+is-less (negsuc m) (pos n) e = refl
+is-less (negsuc m) (negsuc n) e = compare-lt n m (ltb-true n m e)
+
+pub is-greater : (a b : ℤ) → ltZ b a ≡ true → compareZ a b ≡ Ordering·gt
+unfolding compareZ
+is-greater (pos m) (pos n) e = compare-gt m n (ltb-true n m e)
+is-greater (pos m) (negsuc n) e = refl
+is-greater (negsuc m) (pos n) e = absurd (subst T (sym e) tt)
+is-greater (negsuc m) (negsuc n) e = compare-gt n m (ltb-true m n e)
+
+pub is-equal : (a b : ℤ) → ltZ a b ≡ false → ltZ b a ≡ false → compareZ a b ≡ Ordering·eq
+unfolding compareZ
+is-equal (pos m) (pos n) e f = compare-eq m n (ltb-false m n e) (ltb-false n m f)
+is-equal (pos m) (negsuc n) e f = absurd (subst T f tt)
+is-equal (negsuc m) (pos n) e f = absurd (subst T e tt)
+is-equal (negsuc m) (negsuc n) e f = compare-eq n m (ltb-false n m e) (ltb-false m n f)
+
+-- a positive factor changes no comparison
 compare-scale : (a b k : ℕ) → 0 < k → compare (a * k) (b * k) ≡ compare a b
 compare-scale a b k h = go (compare a b) refl
   where

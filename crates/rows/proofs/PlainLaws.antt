@@ -17,7 +17,8 @@ use Rattle.value.specs.declared.Value.{Value}
 use Rattle.value.specs.declared.Compared.{Compared}
 use Rattle.value.specs.declared.Compared.the-variants.{Less, Equal, Greater, Outside}
 use Rattle.value.specs.Exact.{inWords, tell, orderOf}
-use Rattle.value.proofs.Laws.{is-less, is-greater, is-equal, wholes-inside}
+use Rattle.model.proofs.ValueLaws.{is-less, is-greater, is-equal}
+use Rattle.value.proofs.Laws.{wholes-inside}
 use Rattle.rows.specs.Insertion.{isEqual, isOutside, compareFrom}
 use Rattle.words.specs.Words.{valueAt}
 use Rattle.rows.specs.Plain.{Plain, PlainTo, Decides, alikeOf}

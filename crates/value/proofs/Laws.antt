@@ -1,7 +1,6 @@
--- Values in words: what the bounds give, the machine's tests as the model's order, order and operators by their cases.
--- Assumes nothing.
+-- Values in words: what the bounds give, order and operators by their cases. Assumes nothing.
 use Prim.Native.Nat.{ℕ, zero, suc, _^_, _<_, _≤_, zero-le, compare, Ordering, Ordering·lt, Ordering·eq, Ordering·gt}
-use Prim.Native.Nat.{compare·suc-suc, compare·zero-suc, compare·suc-zero}
+use Prim.Native.Nat.{compare·zero-suc, compare·suc-zero}
 use native.Mathlib.Nat.{lt-of-le-of-lt}
 use native.Mathlib.Omega.{arith}
 use mathlib.Core.Bool.{Bool, true, false, _&&_, cond}
@@ -11,11 +10,14 @@ use mir.Syntax.{w64}
 use mir.Val.{SFits, toZ, ofZ}
 use borrow.Author.Tests.{ltb-true, ltb-false, lt-ltb, le-leb, eqb-true}
 use lib.Dec.{T, eqb, ltb, leb, eqb→eq, ltb→lt, leb→le, lit<}
-use lib.IntN.{ℤ, pos, negsuc, natAbs, _*ℤ_}
-use lib.Signed.{ltZ, leZ}
+use lib.IntN.{ℤ, pos, natAbs, _*ℤ_}
+use lib.Signed.{leZ}
 use Rattle.model.specs.Value as model
-use Rattle.model.specs.Value.{compareZ, order, testOf}
+use Rattle.model.specs.Value.{compareZ, order}
 use Rattle.model.proofs.ValueLaws.{compare-self, scaleZ, both-present}
+use Rattle.chart.specs.Chart.{relationOf, relationBetween, caseOf, chartOf}
+use Rattle.chart.specs.declared.Relation.the-variants as chart
+use Rattle.chart.proofs.ChartAnswers.{chart-meets}
 use Rattle.value.specs.declared.Value.{Value}
 use Rattle.value.specs.declared.Compared.{Compared}
 use Rattle.value.specs.declared.Compared.the-variants.{Less, Equal, Greater, Outside}
@@ -87,42 +89,6 @@ module _ (v : Value) (p : model.present (exact v) ≡ true) where
   unfolding insideOf
   inside-high e f = simp (p, e, f)
 
--- the tests as the model's order
-compare-lt : (m n : ℕ) → m < n → compare m n ≡ Ordering·lt
-compare-lt zero zero h = absurd (omega arith)
-compare-lt zero (suc n) h = compare·zero-suc n
-compare-lt (suc m) zero h = absurd (omega arith)
-compare-lt (suc m) (suc n) h = compare·suc-suc m n ∙ compare-lt m n (omega arith)
-
-compare-gt : (m n : ℕ) → n < m → compare m n ≡ Ordering·gt
-compare-gt zero n h = absurd (omega arith)
-compare-gt (suc m) zero h = compare·suc-zero m
-compare-gt (suc m) (suc n) h = compare·suc-suc m n ∙ compare-gt m n (omega arith)
-
-compare-eq : (m n : ℕ) → n ≤ m → m ≤ n → compare m n ≡ Ordering·eq
-compare-eq m n h k = let e : m ≡ n = omega arith in rw e (compare-self n)
-
-pub is-less : (a b : ℤ) → ltZ a b ≡ true → compareZ a b ≡ Ordering·lt
-unfolding compareZ
-is-less (pos m) (pos n) e = compare-lt m n (ltb-true m n e)
-is-less (pos m) (negsuc n) e = absurd (subst T (sym e) tt)
-is-less (negsuc m) (pos n) e = refl
-is-less (negsuc m) (negsuc n) e = compare-lt n m (ltb-true n m e)
-
-pub is-greater : (a b : ℤ) → ltZ b a ≡ true → compareZ a b ≡ Ordering·gt
-unfolding compareZ
-is-greater (pos m) (pos n) e = compare-gt m n (ltb-true n m e)
-is-greater (pos m) (negsuc n) e = refl
-is-greater (negsuc m) (pos n) e = absurd (subst T (sym e) tt)
-is-greater (negsuc m) (negsuc n) e = compare-gt n m (ltb-true m n e)
-
-pub is-equal : (a b : ℤ) → ltZ a b ≡ false → ltZ b a ≡ false → compareZ a b ≡ Ordering·eq
-unfolding compareZ
-is-equal (pos m) (pos n) e f = compare-eq m n (ltb-false m n e) (ltb-false n m f)
-is-equal (pos m) (negsuc n) e f = absurd (subst T f tt)
-is-equal (negsuc m) (pos n) e f = absurd (subst T e tt)
-is-equal (negsuc m) (negsuc n) e f = compare-eq n m (ltb-false n m e) (ltb-false m n f)
-
 -- a product of a numerator and a denominator
 module _ (n d : ℤ) (p : natAbs n ≤ 1000000000000000) (q : natAbs d ≤ 256) where
   operands : toZ w64 (ofZ w64 n) *ℤ toZ w64 (ofZ w64 d) ≡ n *ℤ d
@@ -182,11 +148,11 @@ module _ (x y : Value) (p : T (insideOf x)) (q : T (insideOf y)) where
       go (suc d) (suc e) h =
           absurd (subst T (sym (ap₂ _&&_ (lt-ltb 0 (suc d) (omega arith)) (lt-ltb 0 (suc e) (omega arith))) ∙ h) tt)
 
--- an operator by the order; met only where both values are present
+-- an operator by the chart, where both values are present or not
 abbrev pub judge : ℕ → Bool → Compared → Verdict
-judge op there Less = says (there && testOf op Ordering·lt)
-judge op there Equal = says (there && testOf op Ordering·eq)
-judge op there Greater = says (there && testOf op Ordering·gt)
+judge op there Less = says (chartOf (caseOf op (cond there chart.Less chart.Absent)))
+judge op there Equal = says (chartOf (caseOf op (cond there chart.Equal chart.Absent)))
+judge op there Greater = says (chartOf (caseOf op (cond there chart.Greater chart.Absent)))
 judge op there Outside = verdict.Outside
 
 -- the order, by where the values are
@@ -203,20 +169,22 @@ module _ (x y : Value) where
   unfolding orderOf
   order-inside e f = simp (e, f)
 
-  pub holds-by : (op : ℕ) → holdsOf op x y ≡ judge op (model.present (exact x) && model.present (exact y)) (orderOf x y)
-  unfolding holdsOf orderOf model.meets
-  holds-by op =
-      go (insideOf x && insideOf y) (model.present (exact x)) (model.present (exact y)) (order (exact x) (exact y))
+  pub holds-by : (op : ℕ) (o : Compared) → orderOf x y ≡ o
+      → holdsOf op x y ≡ judge op (model.present (exact x) && model.present (exact y)) o
+  unfolding holdsOf orderOf
+  holds-by op o e =
+      ap (λ b. cond (insideOf x && insideOf y) (says b) verdict.Outside)
+      (sym (chart-meets op (relationBetween (exact x) (exact y)) (exact x) (exact y) refl))
+      ∙ go (insideOf x && insideOf y) (model.present (exact x) && model.present (exact y)) (order (exact x) (exact y))
+      ∙ ap (judge op (model.present (exact x) && model.present (exact y))) e
     where
-      go : (t a b : Bool) (c : Ordering) → cond t (says (a && (b && testOf op c))) verdict.Outside
-          ≡ judge op (a && b) (cond t (tell c) Outside)
-      go true true b Ordering·lt = refl
-      go true true b Ordering·eq = refl
-      go true true b Ordering·gt = refl
-      go true false b Ordering·lt = refl
-      go true false b Ordering·eq = refl
-      go true false b Ordering·gt = refl
-      go false a b c = refl
+      go : (t there : Bool) (c : Ordering)
+          → cond t (says (chartOf (caseOf op (cond there (relationOf c) chart.Absent)))) verdict.Outside
+          ≡ judge op there (cond t (tell c) Outside)
+      go true there Ordering·lt = refl
+      go true there Ordering·eq = refl
+      go true there Ordering·gt = refl
+      go false there c = refl
 
 -- ---- whole values: the numerators tell
 inside-whole : (n : ℤ) → insideOf (inWords (model.whole n)) ≡ leb (natAbs n) 1000000000000000

@@ -3,7 +3,6 @@
 --   insideOf v         |num| ≤ 10^15 and 1 ≤ den ≤ 256: there a cross product is exact in 64 bits; or absent, 0 over 0
 --   Fair v             the same of a value of the model
 --   tell o, says b     the model's order, a truth, as answers
---   toldBy l m         the order of two values, l telling that the first is less, m that it is more; less goes first
 --   orderOf x y        the model's order inside the bounds, Outside elsewhere
 --   holdsOf o x y      whether x and y meet operator o, Outside where one is outside the bounds
 --   lowestOf n d       n / d in lowest terms
@@ -46,11 +45,6 @@ abbrev pub tell : Ordering → Compared
 tell Ordering·lt = Less
 tell Ordering·eq = Equal
 tell Ordering·gt = Greater
-
-abbrev pub toldBy : Bool → Bool → Ordering
-toldBy true m = Ordering·lt
-toldBy false true = Ordering·gt
-toldBy false false = Ordering·eq
 
 unfoldable pub orderOf : Value → Value → Compared
 orderOf x y = cond (insideOf x && insideOf y) (tell (model.order (exact x) (exact y))) Outside

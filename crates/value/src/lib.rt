@@ -5,13 +5,17 @@
 // Two values are compared where both are inside the bounds: numerator at most 10^15 in size, denominator 1 to 256, or
 // absent. Each value of an evaluated set is so (aggregates: proofs/FairSets.antt). Elsewhere the answer is Outside.
 // Every average of some values is in lowest terms with a positive denominator; zero is 0/1.
+use chart::Relation;
+ghost use mathlib.Core.Bool.{cond};
 ghost use mathlib.Core.Path.{_≡_};
 ghost use Prim.Native.Nat.{_*_, _<_, _≤_};
 ghost use lib.Dec.{T, eqb, leb};
 ghost use lib.IntN.{pos, natAbs, _*ℤ_};
 ghost use lib.Signed.{leZ};
-ghost use Rattle.model.specs.Value.{whole, absent, present, gcd, testOf, compareZ, order};
-ghost use Rattle.value.specs.Exact.{exact, inWords, insideOf, orderOf, tell, toldBy, holdsOf, says, emptyOf};
+ghost use Rattle.chart.specs.Chart.{caseOf, chartOf};
+ghost use Rattle.chart.specs.declared.Relation.the-variants.{Absent};
+ghost use Rattle.model.specs.Value.{whole, absent, present, gcd, compareZ, order};
+ghost use Rattle.value.specs.Exact.{exact, inWords, insideOf, orderOf, tell, holdsOf, says, emptyOf};
 ghost use Rattle.value.specs.Exact.{averageOf, lowestOf};
 
 // A value: num / den; absent: 0 / 0.
@@ -187,26 +191,21 @@ pub fn order(x: Value, y: Value) -> Compared
     order_ratios(x, y)
 }
 
-// Whether two values meet operator op (0 =, 1 ≠, 2 <, 3 ≤, 4 >, 5 and above ≥), the first being less, or more, or
-// neither. The one table of the operators; less goes before more where both are told.
-pub fn test(op: u8, less: bool, more: bool) -> bool
-    ensures { λ r. ⌜ r ≡ testOf op (toldBy less more) ⌝ }
-{
-    match op {
-        0 => !less & !more,
-        1 => less | more,
-        2 => less,
-        3 => less | !more,
-        4 => more & !less,
-        _ => !less,
-    }
-}
-
 // A truth as a verdict.
 fn answer(yes: bool) -> Verdict
     ensures { λ r. ⌜ r ≡ says yes ⌝ }
 {
     if yes { Verdict::Yes } else { Verdict::No }
+}
+
+// The chart's verdict on operator op and two values that stand so, where both are present.
+fn judge(op: u8, both: bool, r: Relation) -> Verdict
+    ensures { λ v. ⌜ v ≡ says (chartOf (caseOf op (cond both r Absent))) ⌝ }
+{
+    if both {
+        return answer(chart::meets(op, r));
+    }
+    answer(chart::meets(op, Relation::Absent))
 }
 
 // Whether two values meet operator op; an absent one meets none.
@@ -216,9 +215,9 @@ pub fn holds(op: u8, x: Value, y: Value) -> Verdict
     let both = present(x) & present(y);
     let o = order(x, y);
     match o {
-        Compared::Less => answer(both & test(op, true, false)),
-        Compared::Equal => answer(both & test(op, false, false)),
-        Compared::Greater => answer(both & test(op, false, true)),
+        Compared::Less => judge(op, both, Relation::Less),
+        Compared::Equal => judge(op, both, Relation::Equal),
+        Compared::Greater => judge(op, both, Relation::Greater),
         Compared::Outside => Verdict::Outside,
     }
 }

@@ -76,9 +76,25 @@ fn orders() {
     }
 }
 
-// Values just outside the bounds.
+// Equal values with other denominators, and neighbours of one.
+fn written_twice() {
+    let half = print::over(1, 2);
+    pair(print::over(2, 4), half);
+    pair(half, print::over(2, 4));
+    pair(print::over(-128, 256), print::over(-1, 2));
+    pair(print::over(255, 255), print::over(256, 256));
+    pair(
+        print::over(16777216000000, 256),
+        print::over(65536000000, 1),
+    );
+    pair(print::over(127, 256), half);
+    pair(print::over(129, 256), half);
+}
+
+// Values just outside the bounds, beside one and beside absent.
 fn outsiders() {
     let one = print::over(1, 1);
+    let absent = print::over(0, 0);
     pair(print::over(1000000000000001, 1), one);
     pair(one, print::over(-1000000000000001, 1));
     pair(print::over(0, 257), one);
@@ -86,6 +102,10 @@ fn outsiders() {
     pair(print::over(1, -1), one);
     pair(print::over(-9223372036854775808, 1), one);
     pair(one, print::over(9223372036854775807, 256));
+    pair(print::over(1000000000000001, 1), absent);
+    pair(absent, print::over(-1000000000000001, 1));
+    pair(print::over(-9223372036854775808, 1), absent);
+    pair(absent, print::over(9223372036854775807, 256));
 }
 
 // A value against absent, against four that are like it and outside the bounds, and against three inside.
@@ -110,6 +130,30 @@ fn absents() {
     about_absent(print::over(1, 256));
     about_absent(print::over(-1000000000000000, 1));
     about_absent(print::over(1000000000000000, 1));
+}
+
+// Two values and operators past the last, which are read as it.
+fn past(x: Value, y: Value) {
+    print::say(b"past the last ");
+    print::ratio(x);
+    print::say(b" ");
+    print::ratio(y);
+    operator(b" 6 ", 6, x, y);
+    operator(b" 255 ", 255, x, y);
+    print::say(b"\n");
+}
+
+// Less, equal, greater, absent left, right and both, outside.
+fn past_the_last() {
+    let one = print::over(1, 1);
+    let absent = print::over(0, 0);
+    past(one, print::over(2, 1));
+    past(one, one);
+    past(one, print::over(1, 2));
+    past(absent, one);
+    past(one, absent);
+    past(absent, absent);
+    past(print::over(1, 257), one);
 }
 
 // Ten sums: the ends of what an average takes, just past them, the ends of the result's numerators, some between.
@@ -217,8 +261,10 @@ fn divisors() {
 // All the lines.
 fn main() {
     orders();
+    written_twice();
     outsiders();
     absents();
+    past_the_last();
     averages();
     empties();
     divisors();

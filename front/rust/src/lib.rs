@@ -17,7 +17,21 @@ pub const FILES_WORDS: usize = 8192;
 pub const INDEXES_WORDS: usize = 1280;
 pub const RESULT_WORDS: usize = 2048;
 
-// The archive's two functions: each slice as a pointer and its length.
+/// Operators of a condition: the byte after CD in a question, and the operation of `chart`.
+pub const OPERATOR_EQUAL: u32 = 0;
+pub const OPERATOR_NOT_EQUAL: u32 = 1;
+pub const OPERATOR_LESS: u32 = 2;
+pub const OPERATOR_LESS_EQUAL: u32 = 3;
+pub const OPERATOR_GREATER: u32 = 4;
+pub const OPERATOR_GREATER_EQUAL: u32 = 5;
+
+/// How the first of two values stands to the second: the relation of `chart`. Absent: one of the two is, or both.
+pub const RELATION_LESS: u32 = 0;
+pub const RELATION_EQUAL: u32 = 1;
+pub const RELATION_GREATER: u32 = 2;
+pub const RELATION_ABSENT: u32 = 3;
+
+// The archive's three functions: each slice as a pointer and its length.
 mod archive {
     extern "C" {
         pub fn abe_run(
@@ -40,6 +54,7 @@ mod archive {
             figures_len: usize,
         ) -> u8;
         pub fn abe_index(words: *const i32, words_len: usize, table: u32, column: u32, out: *mut u16, out_len: usize) -> u8;
+        pub fn abe_chart(operation: u32, relation: u32, met: *mut u8, met_len: usize) -> u8;
     }
 }
 
@@ -138,6 +153,22 @@ impl Buffers {
 pub fn index(data: &[i32], table: u32, column: u32, out: &mut [u16]) -> u8 {
     // SAFETY: both pointers and lengths are those of one live slice each, and `out` is borrowed mutably.
     unsafe { archive::abe_index(data.as_ptr(), data.len(), table, column, out.as_mut_ptr(), out.len()) }
+}
+
+/// The chart of the operators: whether a condition of this operation is met by two values that stand in this relation, into
+/// `met[0]` as 1 or 0. Where one of them is absent, or both, none is met. Gives the number: 0, or 2 (`met` has no byte), 5
+/// (operation over 5, relation over 3); a refusal keeps `met`.
+///
+/// ```
+/// let mut met = [7, 7];
+/// assert_eq!(abe::chart(abe::OPERATOR_LESS_EQUAL, abe::RELATION_EQUAL, &mut met), 0);
+/// assert_eq!(met, [1, 7]);
+/// assert_eq!(abe::chart(abe::OPERATOR_NOT_EQUAL, abe::RELATION_ABSENT, &mut met), 0);
+/// assert_eq!(met, [0, 7]);
+/// ```
+pub fn chart(operation: u32, relation: u32, met: &mut [u8]) -> u8 {
+    // SAFETY: the pointer and the length are those of one live slice, which is borrowed mutably.
+    unsafe { archive::abe_chart(operation, relation, met.as_mut_ptr(), met.len()) }
 }
 
 #[cfg(test)]

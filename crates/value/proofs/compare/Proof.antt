@@ -3,7 +3,7 @@ use mathlib.Core.Path.{sym, ap, ap₂, _∙_}
 use lib.Signed.{ltZ}
 use mir.Facts.{toZ-ofZ}
 use Rattle.value.specs.Exact.{tell}
-use Rattle.value.proofs.Laws.{is-less, is-greater, is-equal}
+use Rattle.model.proofs.ValueLaws.{is-less, is-greater, is-equal}
 use Rattle.value.proofs.compare.Statement.{statement}
 use Rattle.value.proofs.compare.Tie as tie
 

@@ -1,4 +1,5 @@
 //! The engine beside an independent evaluator: the answer, the rows, and every word of every buffer after each call.
+mod chart;
 mod draw;
 mod evaluator;
 mod job;

@@ -1,0 +1,2 @@
+-- Other crates cite ChartAnswers.
+pub mod ChartAnswers
