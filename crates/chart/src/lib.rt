@@ -19,24 +19,31 @@ pub enum Relation {
 
 // What the operator asks, and how the two values stand.
 pub enum Case {
+    // =
     EqualWhenLess,
     EqualWhenEqual,
     EqualWhenGreater,
+    // ≠
     UnequalWhenLess,
     UnequalWhenEqual,
     UnequalWhenGreater,
+    // <
     LessWhenLess,
     LessWhenEqual,
     LessWhenGreater,
+    // ≤
     AtMostWhenLess,
     AtMostWhenEqual,
     AtMostWhenGreater,
+    // >
     GreaterWhenLess,
     GreaterWhenEqual,
     GreaterWhenGreater,
+    // ≥
     AtLeastWhenLess,
     AtLeastWhenEqual,
     AtLeastWhenGreater,
+    // all six
     AnyWhenAbsent,
 }
 
