@@ -15,7 +15,7 @@ OPERATORS = {"=": operator.eq, "!=": operator.ne, "<": operator.lt, "<=": operat
 
 ASCENDING = [-10**15, -905, Fraction(-5, 2), -2, Fraction(-1, 2), Fraction(-1, 3), 0, Fraction(1, 256),
              Fraction(1, 255), 1, Fraction(3, 2), 2, 905, Fraction(1811, 2), 10**15]
-WRITTEN_TWICE = [(0, Fraction(0, 7)), (2, Fraction(4, 2)), (Fraction(-6, 2), -3), (Fraction(2, 4), Fraction(1, 2))]
+WRITTEN_TWICE = [(0, Fraction(0, 7)), (2, Fraction(4, 2)), (Fraction(-6, 2), -3)]
 
 LESS = list(combinations(ASCENDING, 2))
 PAIRS = {"less": LESS,

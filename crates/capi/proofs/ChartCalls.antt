@@ -4,14 +4,15 @@ use Prim.Native.Nat.{ℕ, zero, suc, _≤_, _<_}
 use native.Mathlib.Omega.{arith}
 use mathlib.Core.Bool.{Bool, true, false, _&&_, _||_, not, cond}
 use mathlib.Core.List.{List, [], _∷_}
-use mathlib.Core.Path.{_≡_, refl, sym, _∙_, ap, ap₂, subst}
+use mathlib.Core.Path.{_≡_, refl, sym, _∙_, ap, ap₂}
 use borrow.Author.Tests.{le-leb, lt-leb, lt-ltb, le-ltb, ltb-true, ltb-false}
-use lib.Dec.{T, leb, ltb}
+use lib.Dec.{leb, ltb}
 use lib.ListN.{length, set}
 use Rattle.chart.specs.Chart.{caseOf, chartOf}
+use Rattle.model.proofs.Tests.{or-false}
 use Rattle.model.specs.Lists.{overwrite}
 use Rattle.model.specs.Refusal.{firstOf}
-use Rattle.capi.specs.Calls.{relationAt, chartCauses, chartNumber, chartAfter}
+use Rattle.capi.specs.Calls.{relationNumbered, chartCauses, chartNumber, chartAfter}
 
 -- at most k, from the test of more
 under : (n k : ℕ) → leb n k ≡ not (ltb k n)
@@ -30,11 +31,7 @@ named o r t e = ap₂ _&&_ (under o 5) (under r 3) ∙ go (ltb 5 o) (ltb 3 r) �
     go false b = refl
 
 pub is-operator : (o r : ℕ) → (ltb 5 o || ltb 3 r) ≡ false → o ≤ 5
-is-operator o r e = go (ltb 5 o) refl e
-  where
-    go : (t : Bool) → ltb 5 o ≡ t → (t || ltb 3 r) ≡ false → o ≤ 5
-    go true l f = absurd (subst T f tt)
-    go false l f = ltb-false 5 o l
+is-operator o r e = ltb-false 5 o (or-false (ltb 5 o) (ltb 3 r) e .0)
 
 one-put : (b x : ℕ) (bs : List ℕ) → set (x ∷ bs) 0 b ≡ overwrite (b ∷ []) (x ∷ bs)
 unfolding overwrite
@@ -47,7 +44,7 @@ module _ (o r : ℕ) (bs : List ℕ) where
 
   -- the bytes by the number
   abbrev after : ℕ → List ℕ
-  after zero = overwrite (cond (chartOf (caseOf o (relationAt r))) 1 0 ∷ []) bs
+  after zero = overwrite (cond (chartOf (caseOf o (relationNumbered r))) 1 0 ∷ []) bs
   after (suc n) = bs
 
   looked : (n : ℕ) → chartNumber o r (length bs) ≡ n → Looked n (after n)
@@ -55,7 +52,7 @@ module _ (o r : ℕ) (bs : List ℕ) where
   looked n e = (sym e, sym (by-number (chartNumber o r (length bs)) ∙ ap after e))
     where
       by-number : (n : ℕ)
-          → elim n [ zero ↦ overwrite (cond (chartOf (caseOf o (relationAt r))) 1 0 ∷ []) bs | suc n ↦ bs ] ≡ after n
+          → elim n [ zero ↦ overwrite (cond (chartOf (caseOf o (relationNumbered r))) 1 0 ∷ []) bs | suc n ↦ bs ] ≡ after n
       by-number zero = refl
       by-number (suc n) = refl
 
@@ -67,7 +64,7 @@ module _ (o r : ℕ) (bs : List ℕ) where
   unfolding chartNumber chartCauses firstOf
   no-case h e = looked 5 (simp (lt-ltb 0 (length bs) h, named o r true e))
 
-  pub told : 0 < length bs → (ltb 5 o || ltb 3 r) ≡ false → (b : ℕ) → b ≡ cond (chartOf (caseOf o (relationAt r))) 1 0
+  pub told : 0 < length bs → (ltb 5 o || ltb 3 r) ≡ false → (b : ℕ) → b ≡ cond (chartOf (caseOf o (relationNumbered r))) 1 0
       → Looked 0 (set bs 0 b)
   unfolding chartNumber chartCauses firstOf
   told h e b f =

@@ -1,6 +1,7 @@
 // The engine as C and Rust programs link it: numbers and slices only, a slice as a pointer and its length. An answer's
 // four figures go into lent words: number, rows, columns, trials. Where these are fewer than four, that is number 1, as
-// of a work buffer that is short, and nothing is changed anywhere.
+// of a work buffer that is short, and nothing is changed anywhere. The index of a column and the chart of the operators
+// are offered beside a run.
 use chart::Relation;
 use model::Answer;
 ghost use Prim.Native.Nat.{_≤_};
@@ -12,7 +13,7 @@ ghost use Rattle.engine.specs.Runs.{lengthsOf};
 ghost use Rattle.model.specs.Answer.{answerOf, resultAfter, setsAfter, filesAfter, indexesAfter};
 ghost use Rattle.model.specs.Index.{indexNumber, indexAfter};
 ghost use Rattle.model.specs.Lists.{overwrite};
-ghost use Rattle.capi.specs.Calls.{figuresIn, given, relationAt, chartNumber, chartAfter};
+ghost use Rattle.capi.specs.Calls.{figuresIn, given, relationNumbered, chartNumber, chartAfter};
 
 // The figures of an answer put into the first four words.
 fn put_figures(a: Answer, figures: &mut [u64])
@@ -91,8 +92,8 @@ pub extern "C" fn abe_index(words: &[i32], table: u32, column: u32, out: &mut [u
 }
 
 // The relation of a number: 0 less, 1 equal, 2 greater, 3 and above absent.
-fn relation_at(n: u32) -> Relation
-    ensures { λ r. ⌜ r ≡ relationAt n ⌝ }
+fn relation_numbered(n: u32) -> Relation
+    ensures { λ r. ⌜ r ≡ relationNumbered n ⌝ }
 {
     match n {
         0 => Relation::Less,
@@ -122,6 +123,6 @@ pub extern "C" fn abe_chart(operation: u32, relation: u32, met: &mut [u8]) -> u8
     if (operation > 5) | (relation > 3) {
         return 5;
     }
-    met[0] = met_byte(operation as u8, relation_at(relation));
+    met[0] = met_byte(operation as u8, relation_numbered(relation));
     0
 }

@@ -5,11 +5,12 @@ use mathlib.Core.Path.{_≡_, refl, sym, _∙_, ap, subst}
 use lib.Dec.{T}
 use lib.IntN.{ℤ}
 use lib.Signed.{ltZ}
-use Rattle.model.specs.Value.{present, compareZ, order, testOf, meets}
+use Rattle.model.specs.Value.{present, compareZ, orderPresent, order, testOf, meets}
 use Rattle.model.proofs.ValueLaws.{linearZ, is-less, is-greater, is-equal}
 use Rattle.chart.specs.declared.Relation.the-variants.{Absent}
 use Rattle.chart.specs.Chart.{relationOf, caseOf, chartOf}
-use Rattle.chart.specs.ChartAnswers.{ChartOrder, ChartAbsent, ChartMeets, asked, ChartIntegers, ChartRight}
+use Rattle.chart.specs.ChartAnswers.{ChartOrder, ChartAbsent, ChartMeets, EachStands}
+use Rattle.chart.specs.ChartAnswers.{integersMeet, ChartIntegers, ChartRight}
 
 pub chart-order : ChartOrder
 chart-order zero Ordering·lt = refl
@@ -50,39 +51,37 @@ chart-meets o r x y e = ap (λ q. chartOf (caseOf o q)) (sym e) ∙ go (present 
     go false b = chart-absent o
 
 -- what the signs say, for each order
-unequal-is : (c : Ordering) → chartOf (caseOf 1 (relationOf c)) ≡ not (chartOf (caseOf 0 (relationOf c)))
+abbrev answer : ℕ → Ordering → Bool
+answer o c = chartOf (caseOf o (relationOf c))
+
+unequal-is : (c : Ordering) → answer 1 c ≡ not (answer 0 c)
 unequal-is Ordering·lt = refl
 unequal-is Ordering·eq = refl
 unequal-is Ordering·gt = refl
 
-at-most-is : (c : Ordering)
-    → chartOf (caseOf 3 (relationOf c)) ≡ chartOf (caseOf 2 (relationOf c)) || chartOf (caseOf 0 (relationOf c))
+at-most-is : (c : Ordering) → answer 3 c ≡ answer 2 c || answer 0 c
 at-most-is Ordering·lt = refl
 at-most-is Ordering·eq = refl
 at-most-is Ordering·gt = refl
 
-at-least-is : (c : Ordering)
-    → chartOf (caseOf 5 (relationOf c)) ≡ chartOf (caseOf 4 (relationOf c)) || chartOf (caseOf 0 (relationOf c))
+at-least-is : (c : Ordering) → answer 5 c ≡ answer 4 c || answer 0 c
 at-least-is Ordering·lt = refl
 at-least-is Ordering·eq = refl
 at-least-is Ordering·gt = refl
 
-equal-only : (c : Ordering) → chartOf (caseOf 0 (relationOf c)) ≡ true → c ≡ Ordering·eq
+equal-only : (c : Ordering) → answer 0 c ≡ true → c ≡ Ordering·eq
 equal-only Ordering·lt e = absurd (subst T (sym e) tt)
 equal-only Ordering·eq e = refl
 equal-only Ordering·gt e = absurd (subst T (sym e) tt)
 
 -- two integers, by the machine's tests of less and of greater
 module _ (x y : ℤ) where
-  abbrev answer : ℕ → Ordering → Bool
-  answer o c = chartOf (caseOf o (relationOf c))
-
-  less-is : (l g : Bool) → ltZ x y ≡ l → ltZ y x ≡ g → asked 2 x y ≡ l
+  less-is : (l g : Bool) → ltZ x y ≡ l → ltZ y x ≡ g → integersMeet 2 x y ≡ l
   less-is true g p q = ap (answer 2) (is-less x y p)
   less-is false true p q = ap (answer 2) (is-greater x y q)
   less-is false false p q = ap (answer 2) (is-equal x y p q)
 
-  greater-is : (l g : Bool) → ltZ x y ≡ l → ltZ y x ≡ g → asked 4 x y ≡ g
+  greater-is : (l g : Bool) → ltZ x y ≡ l → ltZ y x ≡ g → integersMeet 4 x y ≡ g
   greater-is l true p q = ap (answer 4) (is-greater x y q)
   greater-is true false p q = ap (answer 4) (is-less x y p)
   greater-is false false p q = ap (answer 4) (is-equal x y p q)
@@ -91,13 +90,17 @@ pub chart-integers : ChartIntegers
 chart-integers x y =
     record {
       equal = λ e. linearZ .same x y tt tt (equal-only (compareZ x y) e);
-      same = λ e. ap (λ z. asked 0 x z) (sym e) ∙ ap (λ c. chartOf (caseOf 0 (relationOf c))) (linearZ .self x);
+      same = λ e. ap (λ z. integersMeet 0 x z) (sym e) ∙ ap (answer 0) (linearZ .self x);
       unequal = unequal-is (compareZ x y);
       less = less-is x y (ltZ x y) (ltZ y x) refl refl;
       at-most = at-most-is (compareZ x y);
       greater = greater-is x y (ltZ x y) (ltZ y x) refl refl;
       at-least = at-least-is (compareZ x y);
     }
+
+pub each-stands : EachStands
+unfolding present order orderPresent compareZ
+each-stands = (refl, refl, refl, refl, refl, refl)
 
 pub chart-right : ChartRight
 chart-right = refl

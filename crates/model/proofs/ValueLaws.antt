@@ -1,6 +1,7 @@
 -- Integers and values in order: the order of values that are in lowest terms or absent is linear; `ratio` gives lowest
 -- terms and the same value.
 --   linearZ            the order of integers is linear; linearPresent: that of values in lowest terms
+--   compare-lt, compare-gt   a native comparison by what holds of the numbers
 --   is-less, is-greater, is-equal   the machine's tests of two integers tell their order
 --   Lowest x           x is in lowest terms; Proper x: or absent
 --   linearValue        the order of proper values is linear, so equal ones are the same numerator and denominator

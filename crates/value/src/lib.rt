@@ -198,7 +198,7 @@ fn answer(yes: bool) -> Verdict
     if yes { Verdict::Yes } else { Verdict::No }
 }
 
-// The chart's verdict on operator op and two values that stand so, where both are present.
+// The chart's verdict on operator op: of two values that stand so where both are present, else of absent.
 fn judge(op: u8, both: bool, r: Relation) -> Verdict
     ensures { λ v. ⌜ v ≡ says (chartOf (caseOf op (cond both r Absent))) ⌝ }
 {

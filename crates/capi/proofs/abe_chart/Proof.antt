@@ -20,8 +20,8 @@ cast-met-byte : tie.Need-cast-met-byte
 cast-met-byte c =
     let a = c .before .before .before .args in omega (arith, is-operator (a .operation) (a .relation) (c .if2 .left))
 
-relation-at-requires : tie.Need-relation-at-requires
-relation-at-requires c κs = search needs
+relation-numbered-requires : tie.Need-relation-numbered-requires
+relation-numbered-requires c κs = search needs
 
 met-byte-requires : tie.Need-met-byte-requires
 met-byte-requires c κs = search needs
@@ -36,7 +36,7 @@ returns-3 : tie.Need-returns-3
 returns-3 c =
     let found = c .before in let asked = found .before in let a = asked .before .before .before .args in
     told (a .operation) (a .relation) (a .met .now) (omega arith) (asked .if2 .left) (c .met-byte .result)
-    (c .met-byte .ensures ∙ ap (λ r. cond (chartOf (caseOf (a .operation) r)) 1 0) (found .relation-at .ensures))
+    (c .met-byte .ensures ∙ ap (λ r. cond (chartOf (caseOf (a .operation) r)) 1 0) (found .relation-numbered .ensures))
 
 pub abe-chart-spec : {M : Type 1} → statement M
 abe-chart-spec =
@@ -45,7 +45,7 @@ abe-chart-spec =
     returns
     returns-2
     cast-met-byte
-    relation-at-requires
+    relation-numbered-requires
     met-byte-requires
     slice-write-met
     same-length

@@ -9,49 +9,35 @@ use Rattle.capi.proofs.CallLaws.{absent}
 use borrow.Author.Needs.{needs}
 use Rattle.capi.proofs.abe_index.Statement.{statement}
 use Rattle.capi.proofs.abe_index.Tie as tie
-use Rattle.capi.proofs.abe_index.Reads as reads
-use Rattle.capi.proofs.abe_index.Lts as lts
-use Rattle.tables.proofs.check.Reads as check-reads
-use Rattle.indexes.proofs.index.Reads as index-reads
 
--- src/lib.rt:81:37
 cast-index : tie.Need-cast-index
 cast-index c =
-    let h = both (ltb (c .before .before .args .table) 256) (ltb (c .before .before .args .column) 256) (c .if1
-    .taken) in
-    omega (arith, ltb-true (c .before .before .args .table) 256 (h .0))
+    let a = c .before .before .args in
+    omega (arith, ltb-true (a .table) 256 (both (ltb (a .table) 256) (ltb (a .column) 256) (c .if1 .taken) .0))
 
--- src/lib.rt:81:50
 cast-index-2 : tie.Need-cast-index-2
 cast-index-2 c =
-    let h = both (ltb (c .before .before .args .table) 256) (ltb (c .before .before .args .column) 256) (c .if1
-    .taken) in
-    omega (arith, ltb-true (c .before .before .args .column) 256 (h .1))
+    let a = c .before .before .args in
+    omega (arith, ltb-true (a .column) 256 (both (ltb (a .table) 256) (ltb (a .column) 256) (c .if1 .taken) .1))
 
--- src/lib.rt:81:9
 index-requires : tie.Need-index-requires
 index-requires c κs = search needs
 
--- src/lib.rt:81:9
 same-length : tie.Need-same-length
 same-length c = search needs
 
--- src/lib.rt:81:9
 returns : tie.Need-returns
 returns c = search needs
 
--- src/lib.rt:83:9
 check-requires : tie.Need-check-requires
 check-requires c κs = search needs
 
--- src/lib.rt:85:9
 returns-2 : tie.Need-returns-2
 returns-2 c =
     let a = c .before .before .before .before .args in
-    index-data (a .words .now) (a .table) (a .column) (a .out .now) (c .before .check .result) (c .before .check
-    .ensures) (c .if2 .taken)
+    index-data (a .words .now) (a .table) (a .column) (a .out .now) (c .before .check .result)
+    (c .before .check .ensures) (c .if2 .taken)
 
--- src/lib.rt:75:1
 returns-3 : tie.Need-returns-3
 returns-3 c =
     let a = c .before .before .before .before .args in

@@ -5,36 +5,27 @@ use Rattle.capi.proofs.CallLaws.{four-put}
 use borrow.Author.Needs.{needs}
 use Rattle.capi.proofs.put_figures.Statement.{statement}
 use Rattle.capi.proofs.put_figures.Tie as tie
-use Rattle.capi.proofs.put_figures.Reads as reads
-use Rattle.capi.proofs.put_figures.Lts as lts
 
--- src/lib.rt:19:18
 cast-figures : tie.Need-cast-figures
 cast-figures c = search needs
 
--- src/lib.rt:19:5
 slice-write-figures : tie.Need-slice-write-figures
 slice-write-figures c = search needs
 
--- src/lib.rt:20:5
 slice-write-figures-2 : tie.Need-slice-write-figures-2
 slice-write-figures-2 c =
     simp length-set (omega (arith, c .before .pre))
 
--- src/lib.rt:21:5
 slice-write-figures-3 : tie.Need-slice-write-figures-3
 slice-write-figures-3 c =
     simp length-set (omega (arith, c .before .pre))
 
--- src/lib.rt:22:5
 slice-write-figures-4 : tie.Need-slice-write-figures-4
 slice-write-figures-4 c = search needs
 
--- src/lib.rt:15:1
 same-length : tie.Need-same-length
 same-length c = search needs
 
--- src/lib.rt:15:1
 returns : tie.Need-returns
 returns c =
     let a = c .before .args in
