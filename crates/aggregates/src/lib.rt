@@ -4,6 +4,8 @@
 //
 // Refused: over 4 columns, over 256 rows, a column past the last, words too short for the rows. A value outside the
 // bounds of exact order is answered Outside.
+#![tactic(auto)]
+
 mod column;
 
 ghost use Rattle.std.specs.Prelude.{◌≡◌};

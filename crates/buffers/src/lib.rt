@@ -1,5 +1,6 @@
 // The named lengths of the lent buffers (01, "Causes of refusal", numbers 1 and 2), and the part of each work buffer that a
 // level or a block has. The definitions have the same numbers: lengths in model/specs/Refusal, parts in specs/Parts.
+#![tactic(auto)]
 
 // 64-bit words of the result: 256 rows of four values.
 pub const RESULT: usize = 2048;

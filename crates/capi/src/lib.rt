@@ -2,6 +2,8 @@
 // four figures go into lent words: number, rows, columns, trials. Where these are fewer than four, that is number 1, as
 // of a work buffer that is short, and nothing is changed anywhere. The index of a column and the chart of the operators
 // are offered beside a run.
+#![tactic(auto)]
+
 ghost use Rattle.std.specs.Prelude.{◌≤◌, cond, ◌≡◌, length};
 ghost use Rattle.chart.specs.Chart.{case_of, chart_of};
 ghost use Rattle.engine.specs.Runs.{lengths_of};

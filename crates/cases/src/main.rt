@@ -1,6 +1,8 @@
 // The answer of the engine to each job of a stream on standard input, a line `changed` where it leaves a lent word other
 // than the paper has it, and how many jobs there are. A script in tests/ computes the same lines by the evaluator, apart
 // from this code.
+#![tactic(auto)]
+
 mod lent;
 mod parts;
 mod print;

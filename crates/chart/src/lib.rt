@@ -5,6 +5,8 @@
 // less, equal and greater there is a case, eighteen in all (`Case`). Its name says what the operator asks and how the
 // values stand: `AtMostWhenEqual` is ≤ between two equal values. Absent is a case beside them, the same for all six.
 // `answer` is the chart, a line for each case. The functions below it find the case.
+#![tactic(auto)]
+
 ghost use Rattle.std.specs.Prelude.{◌≡◌};
 ghost use Rattle.model.specs.Value.{compare_z};
 ghost use Rattle.chart.specs.Chart.{relation_of, case_of, chart_of};

@@ -1,5 +1,7 @@
 // The chart of the operators in words: each operator against less, equal, greater and absent, a line each.
 // A script in tests/ computes the same lines with Python's own operators, apart from this code.
+#![tactic(auto)]
+
 use chart::Relation;
 
 // Text as it is.

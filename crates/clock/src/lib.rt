@@ -1,5 +1,7 @@
 // The trials counted against the budget (01: "Trials are counted one by one against the budget"). A trial past the
 // budget leaves it spent, at the budget. Total: no sum wraps, whatever was counted before.
+#![tactic(auto)]
+
 ghost use Rattle.std.specs.Prelude.{◌-◌, ◌≡◌};
 ghost use Rattle.clock.specs.Clock.{charged, spent_at};
 

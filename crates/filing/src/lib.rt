@@ -3,6 +3,8 @@
 // the aggregates of that set. The marks of the groups lie before the values of their slots, so that groups are made
 // empty by zeroing the marks alone. Every function takes every number: a group past 255 has no values, and what the
 // words have no room for is not written.
+#![tactic(auto)]
+
 mod memo;
 mod slots;
 mod walk;

@@ -2,6 +2,8 @@
 // groups, a group being a mark and the three aggregates that may name the block; the marks of all groups lie first, and
 // the aggregates follow, three for each group. Which aggregates these are is told by the question, once. Every function
 // takes every number: a group past 255 has no values, and there an aggregate is that of an empty set.
+#![tactic(auto)]
+
 ghost use Rattle.std.specs.Prelude.{◌<◌, ◌≡◌, length};
 ghost use Rattle.groups.specs.Asking.{asking, Slots, asks_at, slot_of};
 ghost use Rattle.groups.specs.Groups.{grouping, slot_place, aggregate_at};

@@ -2,6 +2,8 @@
 // aggregate elements that name one block number, whether such a block is there or not. Total: bytes past the end read
 // 0, so that an element past the end is empty, and a walk stops where the bytes end. One walk over the elements of
 // conditions and output lists: the cost goes by their number, and by five blocks at most.
+#![tactic(auto)]
+
 ghost use Rattle.std.specs.Prelude.{◌≡◌, ◌+◌, ◌≤◌, ◌<◌, length};
 ghost use Rattle.model.specs.Lists.{concat_map};
 ghost use Rattle.model.specs.Question.{other_elements};

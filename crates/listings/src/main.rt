@@ -2,6 +2,8 @@
 // for each, by the same functions. An input has a head of six bytes: the mark LI or BJ, for the one program or the other,
 // and a length of four bytes, the lowest first. A line at the end says how many inputs there are. A script in tests/
 // computes the same text by the evaluator, apart from this code.
+#![tactic(auto)]
+
 ghost use Rattle.std.specs.Prelude.{◌<◌, ◌≤◌, ◌≡◌, length};
 
 // What became of an input's head: 0 read, 1 the stream had ended, 2 malformed; whether a budget stands behind the job, and

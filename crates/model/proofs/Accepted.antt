@@ -12,7 +12,7 @@ use lib.ListN.{length, get_or-eq_default}
 use Rattle.model.specs.Checks.{element_there, all_bound, counts_fit, placed, block_there, all_there, element_bound}
 use Rattle.model.specs.Checks.{block_bound}
 use Rattle.model.specs.Lists.{all, any, range, concat_map, In}
-use Rattle.model.specs.Question.{Element, variable, fixed, aggregate, RelationRow, Condition, Block, no_block}
+use Rattle.model.specs.Question.{Element, variable, fixed, aggregate, RelationRow, Condition, Block, no_block, empty, constant}
 use Rattle.model.specs.Question.{block_at, is_aggregate, names, names_in, is_var, in_rows, is_fixed, in_conditions}
 use Rattle.model.specs.Question.{row_elements, other_elements, elements}
 use Rattle.model.specs.Scope.{owns, refers, within, level_of}
@@ -153,6 +153,10 @@ module _ (d : List ℤ) (q : List Block) (L : T (counts_fit q)) (P : T (all_ther
       go : T (eqb j i) ⊎ T (not (owns v (block_at q j))) → i ≡ j
       go (inl x) = sym (eqb→eq j i x)
       go (inr x) = absurd (T_not (owns v (block_at q j)) x o)
+  own-only v i j empty t s h o = elim t [ ]
+  own-only v i j (constant _) t s h o = elim t [ ]
+  own-only v i j (fixed _) t s h o = elim t [ ]
+  own-only v i j (aggregate function block column) t s h o = elim t [ ]
 
   once : (v i j : ℕ) → i < length q → j < length q → T (owns v (block_at q i)) → T (owns v (block_at q j)) → i ≡ j
   unfolding owns Found
@@ -162,6 +166,10 @@ module _ (d : List ℤ) (q : List Block) (L : T (counts_fit q)) (P : T (all_ther
   own-it : (v j : ℕ) (e : Element) → T (is_var v e) → T (element_bound q j e) → T (owns v (block_at q j))
   own-it v j (variable w) t s = rw (eqb→eq v w t) (and_left (owns w (block_at q j))
       (all (λ i. eqb i j || not (owns w (block_at q i))) (range 0 (length q))) s)
+  own-it v j empty t s = elim t [ ]
+  own-it v j (constant _) t s = elim t [ ]
+  own-it v j (fixed _) t s = elim t [ ]
+  own-it v j (aggregate function block column) t s = elim t [ ]
 
   used : (v j : ℕ) → T (in_conditions (is_var v) (block_at q j).conditions || any (is_var v) (block_at q j).outputs)
       → T (owns v (block_at q j))
@@ -182,6 +190,10 @@ module _ (d : List ℤ) (q : List Block) (L : T (counts_fit q)) (P : T (all_ther
         rw e (ltb→lt b (length q) (search (and_left, and_right))),
         rw e (eqb→eq (block_at q b).parent j (search (and_left, and_right))),
       )
+  child-it c j empty t s = elim t [ ]
+  child-it c j (constant _) t s = elim t [ ]
+  child-it c j (variable _) t s = elim t [ ]
+  child-it c j (fixed _) t s = elim t [ ]
 
   child : (c j : ℕ) → j < length q → T (names_in c (block_at q j)) → (c < length q) × ((block_at q c).parent ≡ j)
   unfolding Found
@@ -190,6 +202,10 @@ module _ (d : List ℤ) (q : List Block) (L : T (counts_fit q)) (P : T (all_ther
   -- a fixed variable
   small-it : (v j : ℕ) (e : Element) → T (is_fixed v e) → T (element_there q j e) → v < 16
   small-it v j (fixed w) t s = let e = eqb→eq v w t in omega (arith, ltb→lt w 16 s)
+  small-it v j empty t s = elim t [ ]
+  small-it v j (constant _) t s = elim t [ ]
+  small-it v j (variable _) t s = elim t [ ]
+  small-it v j (aggregate function block column) t s = elim t [ ]
 
   no-refer : (v : ℕ) → T (refers v no_block) → ⊥
   unfolding refers in_rows in_conditions any
@@ -212,6 +228,10 @@ module _ (d : List ℤ) (q : List Block) (L : T (counts_fit q)) (P : T (all_ther
         and_left (within 5 q x.0 (block_at q j).parent) (owns w (block_at q x.0)) x.2,
         rw (eqb→eq v w t) (and_right (within 5 q x.0 (block_at q j).parent) (owns w (block_at q x.0)) x.2),
       )
+  above-it v j empty t s = elim t [ ]
+  above-it v j (constant _) t s = elim t [ ]
+  above-it v j (variable _) t s = elim t [ ]
+  above-it v j (aggregate function block column) t s = elim t [ ]
 
   above : (v j : ℕ) → j < length q → T (refers v (block_at q j))
       → (a : ℕ) × (a < length q) × T (within 5 q a (block_at q j).parent) × T (owns v (block_at q a))

@@ -17,10 +17,12 @@ module _ {A : Type 0} where
   pub of-all : (Q : A → Type 0) (l : List A) (x : A) → All Q l → In x l → Q x
   of-all Q (y ∷ ys) x u (inl p) = rw p u.0
   of-all Q (y ∷ ys) x u (inr i) = of-all Q ys x u.1 i
+  of-all Q [] x u x4 = elim x4 [ ]
 
   pub in_left : (a : A) (l r : List A) → In a l → In a (l ++ r)
   in_left a (x ∷ xs) r (inl p) = inl p
   in_left a (x ∷ xs) r (inr i) = inr (in_left a xs r i)
+  in_left a [] r x' = elim x' [ ]
 
   pub in_right : (a : A) (l r : List A) → In a r → In a (l ++ r)
   in_right a [] r i = i
@@ -61,6 +63,7 @@ pub concat-in : {A B : Type 0} (f : A → List B) (l : List A) (x : A) (y : B) �
 unfolding concat_map
 concat-in f (z ∷ zs) x y (inl e) i = in_left y (f z) (concat_map f zs) (subst (λ w. In y (f w)) e i)
 concat-in f (z ∷ zs) x y (inr j) i = in_right y (f z) (concat_map f zs) (concat-in f zs x y j i)
+concat-in {A = A} {B = B} f [] x y x4 i = elim x4 [ ]
 
 -- sums
 module _ {A : Type 0} where
@@ -97,3 +100,6 @@ module _ {A : Type 0} where
   pub only_one : (l : List A) (x y : A) → length l ≡ 1 → In x l → In y l → x ≡ y
   only_one (a ∷ []) x y e (inl p) (inl r) = p ∙ sym r
   only_one (a ∷ b ∷ l) x y e i j = absurd (omega arith)
+  only_one [] x y e i j = elim i [ ]
+  only_one (a ∷ []) x y e (inl p) (inr x14) = elim x14 [ ]
+  only_one (a ∷ []) x y e (inr x14) j = elim x14 [ ]

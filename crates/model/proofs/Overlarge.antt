@@ -1,5 +1,5 @@
 -- Too large, as the paper words it: `too_large` is true exactly when some evaluated set has over 256 rows.
-use Prim.Native.Nat.{ℕ, suc}
+use Prim.Native.Nat.{ℕ, suc, zero}
 use mathlib.Core.Bool.{Bool, ◌||◌}
 use mathlib.Core.List.{List}
 use mathlib.Core.Logic.{◌⊎◌, inl, inr}
@@ -47,6 +47,7 @@ module _ (d : List ℤ) (qs : List ℕ) where
           → (T (large_below n d q y.0 x.0) → Overlarge d qs) → Overlarge d qs
       go (inl s) r = here-large n y.0 x.0 below s
       go (inr s) r = r s
+  below-large zero k b e t = elim t [ ]
 
   pub overlarge-of : T (too_large d q) → Overlarge d qs
   unfolding too_large result

@@ -18,6 +18,7 @@ use Rattle.model.specs.Tables.{in_range, laid_out}
 pub first_passes : (n : ℕ) (t : Bool) (cs : List Cause) → T t → first_of ((n, t) ∷ cs) ≡ first_of cs
 unfolding first_of
 first_passes n true cs s = refl
+first_passes n false cs s = elim s [ ]
 
 pub first_stops : (n : ℕ) (cs : List Cause) → first_of ((n, false) ∷ cs) ≡ n
 unfolding first_of

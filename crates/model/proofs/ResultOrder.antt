@@ -29,7 +29,7 @@ use Rattle.model.specs.Value.{order}
 use Rattle.model.specs.declared.Answer.{Answer}
 use Rattle.model.proofs.AnswerLaws.{given-rows, Rows}
 use Rattle.model.proofs.BisectionLaws.{ascending-at, all-at}
-use Rattle.model.proofs.BufferLaws.{result_value, result-kept}
+use Rattle.model.proofs.BufferLaws.{result-kept, result_value as word_value}
 use Rattle.model.proofs.CanonLaws.{set_ascending, set_proper}
 use Rattle.model.proofs.OrderLaws.{ProperRow}
 use Rattle.model.proofs.PlansAgree.{plans_agree}
@@ -94,7 +94,7 @@ module _ (l : Lengths) (d : List ℤ) (qs ps : List ℕ) (budget : ℕ) (words :
 
   value_there : (r c : ℕ) → r < a.rows → c < a.columns → result_value after a.columns r c ≡ column_at c (get_or rs r [])
   value_there r c h k =
-      let e = result_value l d qs ps budget words given r c h k in
+      let e = word_value l d qs ps budget words given r c h k in
       ap₂ (λ x y. record { num = x; den = nat_of y }) e.0 e.1
 
   ascending : Ascending order_rows rs

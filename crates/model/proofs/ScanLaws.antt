@@ -2,7 +2,7 @@
 use Prim.Native.Nat.{ℕ, zero, suc, ◌<◌}
 use native.Mathlib.Omega.{arith}
 use mathlib.Core.Bool.{not}
-use mathlib.Core.List.{List, ◌∷◌}
+use mathlib.Core.List.{List, ◌∷◌, []}
 use mathlib.Core.Logic.{inl, inr}
 use mathlib.Core.Path.{◌≡◌, refl, sym, subst}
 use lib.Dec.{T, not_T, eqb, eqb_refl}
@@ -11,7 +11,7 @@ use lib.ListN.{length, get_or}
 use Rattle.model.specs.Lists.{all, In, All}
 use Rattle.model.specs.Matching.{live}
 use Rattle.model.specs.Plan.{Path, file, index, merging, entry_at, head_entry, wants_one, admits}
-use Rattle.model.specs.Question.{Element, empty, constant, fixed, RelationRow, Block, block_at, is_empty, is_var}
+use Rattle.model.specs.Question.{Element, empty, constant, fixed, RelationRow, Block, block_at, is_empty, is_var, variable, aggregate}
 use Rattle.model.specs.Question.{in_rows, is_fixed, any_fixed}
 use Rattle.model.specs.Scan.{Binding, scan_rows, scan}
 use Rattle.model.specs.Scope.{owns, refers, outsiders}
@@ -27,9 +27,14 @@ use Rattle.model.proofs.Tests.{and_left, or_left}
 wanting_in : (es : List Element) (c : ℕ) → T (wants_one (get_or es c empty)) → (c < length es) × In (get_or es c empty) es
 wanting_in (e ∷ es) zero t = (omega arith, inl refl)
 wanting_in (e ∷ es) (suc c) t = let r = wanting_in es c t in (let h = r.0 in omega arith, inr r.1)
+wanting_in [] c t = elim t [ ]
 
 fixed-wants : (e : Element) → T (any_fixed e) → T (wants_one e)
 fixed-wants (fixed v) t = tt
+fixed-wants empty t = elim t [ ]
+fixed-wants (constant _) t = elim t [ ]
+fixed-wants (variable _) t = elim t [ ]
+fixed-wants (aggregate function block column) t = elim t [ ]
 
 module _ (q : List Block) (S : Sound q) (k : ℕ) (here : k < length q) (b : Binding) (ready : Ready q k b) (d : List ℤ)
     (w : RelationRow) (ws : List RelationRow) (head : live (block_at q k) ≡ w ∷ ws) where
@@ -56,6 +61,9 @@ module _ (q : List Block) (S : Sound q) (k : ℕ) (here : k < length q) (b : Bin
   wanting : (e : Element) → T (wants_one e) → In e w.entries → Wanting w.entries b e
   wanting (constant x) t i = tt
   wanting (fixed v) t i = fixed-bound v i
+  wanting empty t i = elim t [ ]
+  wanting (variable _) t i = elim t [ ]
+  wanting (aggregate function block column) t i = elim t [ ]
 
   by_column : (c : ℕ) → T (wants_one (head_entry (live (block_at q k)) c))
       → (c < length w.entries) × Wanting w.entries b (entry_at w c)

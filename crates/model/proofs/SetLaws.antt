@@ -49,6 +49,7 @@ module _ {A : Type 0} (cmp : A → A → Ordering) where
       go r Ordering.lt e = rw (e, insert) (inr (inr i))
       go r Ordering.eq e = rw (e, insert) (inr i)
       go r Ordering.gt e = rw (e, insert) (inr r)
+  insert-old x a [] x'' = elim x'' [ ]
 
   pub insert-only : (x a : A) (l : List A) → In a (insert cmp x l) → (a ≡ x) ⊎ In a l
   unfolding insert
@@ -105,6 +106,7 @@ module _ {A : Type 0} (P : A → Type 0) (cmp : A → A → Ordering) (L : Linea
   under-in : (x a : A) (l : List A) → Under cmp x l → In a l → cmp x a ≡ Ordering.lt
   under-in x a (y ∷ ys) u (inl p) = rw p u.0
   under-in x a (y ∷ ys) u (inr i) = under-in x a ys u.1 i
+  under-in x a [] u x3 = elim x3 [ ]
 
   not-under-self : (x : A) → cmp x x ≡ Ordering.lt → ⊥
   not-under-self x e = let s = L.self x in let z : ◌≡◌ {A = ℕ} 0 1 = cc in omega arith

@@ -12,6 +12,7 @@ use Rattle.model.specs.Lists.{In, all, any, filter, range}
 
 pub or_left : (a b : Bool) → T a → T (a || b)
 or_left true b t = tt
+or_left false b t = elim t [ ]
 
 pub or_right : (a b : Bool) → T b → T (a || b)
 or_right true b t = tt
@@ -30,12 +31,15 @@ not-false a e = rw e tt
 
 pub and_left : (a b : Bool) → T (a && b) → T a
 and_left true b t = tt
+and_left false b t = elim t [ ]
 
 pub and_right : (a b : Bool) → T (a && b) → T b
 and_right true b t = t
+and_right false b t = elim t [ ]
 
 pub and_both : (a b : Bool) → T a → T b → T (a && b)
 and_both true b s t = t
+and_both false b s t = elim s [ ]
 
 pub test : (b : Bool) → T b ⊎ T (not b)
 test true = inl tt
@@ -48,11 +52,13 @@ module _ {A : Type 0} where
     where
       go : (b : Bool) → T b → T (b || any p ys)
       go true t = tt
+      go false t = elim t [ ]
   any_of p x (y ∷ ys) (inr i) t = go (p y) (any_of p x ys i t)
     where
       go : (b : Bool) → T (any p ys) → T (b || any p ys)
       go true r = tt
       go false r = r
+  any_of p x [] x3 t = elim x3 [ ]
 
   pub of-any : (p : A → Bool) (l : List A) → T (any p l) → (x : A) × In x l × T (p x)
   unfolding any
@@ -62,11 +68,13 @@ module _ {A : Type 0} where
           → (x : A) × In x (y ∷ ys) × T (p x)
       go true e t r = (y, inl refl, rw e tt)
       go false e t r = let k = r t in (k.0, inr k.1, k.2)
+  of-any p [] t = elim t [ ]
 
   pub all-at : (p : A → Bool) (l : List A) (x : A) → T (all p l) → In x l → T (p x)
   unfolding all
   all-at p (y ∷ ys) x t (inl e) = rw e (and_left (p y) (all p ys) t)
   all-at p (y ∷ ys) x t (inr i) = all-at p ys x (and_right (p y) (all p ys) t) i
+  all-at p [] x t x4 = elim x4 [ ]
 
   pub in-filter : (p : A → Bool) (a : A) (l : List A) → In a (filter p l) → In a l × T (p a)
   unfolding filter
@@ -76,6 +84,7 @@ module _ {A : Type 0} where
           → In a (x ∷ xs) × T (p a)
       go r true e = rw (e, filter) (elim [ inl h ↦ (inl h, rw (h, e) tt) | inr h ↦ (inr (r h).0, (r h).1) ])
       go r false e = rw (e, filter) (λ h. (inr (r h).0, (r h).1))
+  in-filter p a [] i = elim i [ ]
 
   pub filter-in : (p : A → Bool) (a : A) (l : List A) → In a l → T (p a) → In a (filter p l)
   unfolding filter
@@ -89,6 +98,7 @@ module _ {A : Type 0} where
       go : In a (filter p xs) → (b : Bool) → p x ≡ b → In a (filter p (x ∷ xs))
       go r true e = rw (e, filter) (inr r)
       go r false e = rw (e, filter) r
+  filter-in p a [] x'' t = elim x'' [ ]
 
   pub place-in : (l : List A) (z : A) (i : ℕ) → i < length l → In (get_or l i z) l
   place-in [] z i h = absurd (omega arith)
@@ -127,6 +137,7 @@ pub range-in : (a n j : ℕ) → In j (range a n) → j < a + n
 unfolding range
 range-in a (suc n) j (inl p) = omega arith
 range-in a (suc n) j (inr i) = omega (arith, range-in (suc a) n j i)
+range-in a zero j x' = elim x' [ ]
 
 pub range_length : (a k : ℕ) → length (range a k) ≡ k
 unfolding range

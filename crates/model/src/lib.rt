@@ -1,5 +1,7 @@
 // The scope paper (01) as definitions, in specs/, and their laws, in proofs/. Of code there is only what the
 // definitions speak of: the answer of a run, and the cases that lead to it.
+#![tactic(auto)]
+
 ghost use Rattle.std.specs.Prelude.{◌≡◌};
 ghost use Rattle.model.specs.Outcome.{figures_of};
 

@@ -1,5 +1,7 @@
 // A question from its bytes, with the lowest of the numbers 5 to 10 that applies (01, "The question", "Causes of
 // refusal").
+#![tactic(auto)]
+
 ghost use Rattle.std.specs.Prelude.{ℕ, ◌+◌, ◌*◌, ◌<◌, ◌≤◌, min, eqb, ltb, length, cond, ◌≡◌, List};
 ghost use Rattle.syntax.specs.Described.{described, blocks_in};
 ghost use Rattle.model.specs.Question.{block_at};

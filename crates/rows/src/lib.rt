@@ -4,6 +4,8 @@
 //
 // Refused: no columns or over 4, over 256 rows, words too short for what is asked. A value outside the bounds of exact
 // order is answered Outside. A refused or outside call leaves the words as they were.
+#![tactic(auto)]
+
 mod places;
 mod plain;
 mod search;

@@ -2,6 +2,8 @@
 // variable belongs to the one block where it stands as kind 2"; numbers 7 to 9). Every public function is total: an
 // element past the end of the bytes is empty, and a block past the last has no records. A walk stops at the end of the
 // bytes, since what is left past it holds nothing.
+#![tactic(auto)]
+
 ghost use Rattle.std.specs.Prelude.{◌≡◌, ◌&&◌, cond, List, ℕ, ◌≤◌, ◌<◌, min, eqb, ltb, length, get_or};
 ghost use Rattle.model.specs.Checks.{ratio_at};
 ghost use Rattle.model.specs.Question.{empty, block_at, names_in};

@@ -1,6 +1,8 @@
 // The question's bytes as records in their order (01, "The question"; number 5), and the places of what they hold.
 // Blocks are read to the last byte, whatever their number; the first five are kept. Every public function is total:
 // bytes past the end read 0.
+#![tactic(auto)]
+
 ghost use Rattle.std.specs.Prelude.{◌≡◌, true, ◌&&◌, ℕ, ◌+◌, ◌*◌, ◌-◌, ◌%◌, ◌≤◌, ◌<◌, length, get_or};
 ghost use Rattle.model.specs.Records as model;
 ghost use Rattle.syntax.specs.Places.{item_at, head_at, byte_at, left, word_at, takes, five_zeros, argument_ok, element_ok};

@@ -1,5 +1,7 @@
 // Causes 3 and 4 at every limit of the paper and one past it, the readers on slices laid out and not, and the index
 // with its ranges. Each line says what is tried; tests/tables_expected.py prints the same lines by the evaluator.
+#![tactic(auto)]
+
 use libc::STDOUT_FILENO;
 
 // Prints a line: what is tried, and the answer.

@@ -5,6 +5,8 @@
 // Two values are compared where both are inside the bounds: numerator at most 10^15 in size, denominator 1 to 256, or
 // absent. Each value of an evaluated set is so (aggregates: proofs/FairSets.antt). Elsewhere the answer is Outside.
 // Every average of some values is in lowest terms with a positive denominator; zero is 0/1.
+#![tactic(auto)]
+
 ghost use Rattle.std.specs.Prelude.{cond, ◌≡◌, ◌*◌, ◌<◌, ◌≤◌, T, eqb, leb, pos, nat_abs, ◌*ℤ◌};
 ghost use Rattle.std.specs.Int.Signed.{le_z};
 ghost use Rattle.chart.specs.Chart.{case_of, chart_of};

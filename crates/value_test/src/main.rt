@@ -1,5 +1,7 @@
 // Orders, operators, averages and sets at both ends of every range, a line each with its operands and its result.
 // A script in tests/ computes the same lines with fractions, apart from this code.
+#![tactic(auto)]
+
 mod print;
 mod sets;
 

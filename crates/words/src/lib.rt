@@ -1,6 +1,8 @@
 // Values in lent words (01, "Matching": "Row r, column c of n columns stands at words 2 × (r × n + c) and the next"). A
 // place counts values: row r, column c of n is place r × n + c. Every function takes every buffer and every place: where
 // the words are too short for what is asked, they stay as they were.
+#![tactic(auto)]
+
 mod moves;
 mod places;
 
