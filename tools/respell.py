@@ -24,7 +24,24 @@ compare sign abs nat_abs xor shl shr inl inr""".split())
 
 
 # Lemmas that would have their function's name.
-FUNCTIONS = {word: word + "_lem" for word in ("in_rows", "counts_of", "block_within")}
+FUNCTIONS = {
+    word: word.replace("-", "_") + "_lem"
+    for word in (
+        "in_rows",
+        "counts_of",
+        "block_within",
+        "bound-in",
+        "average-of",
+        "front-zeroed",
+        "behind-zeroed",
+        "plain_in",
+        "sole-in",
+        "is-var",
+        "element-of",
+    )
+}
+# A constructor that would have a function's name.
+FUNCTIONS["by_value"] = "by_key"
 
 
 def files(ends):
@@ -86,7 +103,7 @@ def table(texts):
         if "-" not in word and snake(word) != word:
             camel[word] = snake(word)
     for name, kinds in where.items():
-        if "-" in name and kinds == {"lemma"}:
+        if "-" in name and name not in FUNCTIONS and kinds == {"lemma"}:
             new = dashed(name, known)
             if new in used or list(lemmas.values()).count(new):
                 print(f"kept: {name}, as {new} is there")

@@ -17,7 +17,7 @@ use Rattle.model.proofs.AggregateLaws.{present-few}
 use Rattle.value.specs.declared.Value.{Value}
 use Rattle.value.specs.Exact.{exact, in_words, inside_of, average_of}
 use Rattle.value.proofs.Ints.{abs-add}
-use Rattle.value.proofs.Averaging.{average_none, average_of}
+use Rattle.value.proofs.Averaging.{average_none, average_of_lem}
 use Rattle.value.proofs.Laws.{both, inside_is}
 use Rattle.aggregates.specs.declared.Aggregate.TheVariants as aggregate
 use Rattle.aggregates.specs.declared.Total.TheVariants as of-total
@@ -76,7 +76,7 @@ ave_told : (us : List model.Value) → length us ≤ 256 → nat_abs (total us) 
 unfolding ave_of
 ave_told [] few small = sym (ap mean_in (average_none (total [])))
 ave_told (u ∷ us) few small =
-    sym (ap mean_in (average_of (total (u ∷ us)) (length (u ∷ us)) (omega arith) few
+    sym (ap mean_in (average_of_lem (total (u ∷ us)) (length (u ∷ us)) (omega arith) few
     (le-leb (nat_abs (total (u ∷ us))) 256000000000000000 small)))
 
 pub over_average : (f k : ℕ) (vs : List Value) → 3 < f → length vs ≡ k → k ≤ 256

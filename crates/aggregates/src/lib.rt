@@ -14,21 +14,21 @@ ghost use Rattle.aggregates.specs.Columns.{aggregate_in};
 use value::Value;
 
 // The sum so far of a column, and how many of its values are present.
-#[derive(Drop)]
+#[derive(Clone, Copy)]
 pub(crate) struct Sum {
     pub(crate) value: i64,
     pub(crate) present: u64,
 }
 
 // The sum of a column.
-#[derive(Drop)]
+#[derive(Clone, Copy)]
 pub(crate) enum Total {
     Of(Sum),
     Outside,
 }
 
 // An aggregate of a column.
-#[derive(Drop)]
+#[derive(Clone, Copy)]
 pub enum Aggregate {
     Of(Value),
     Outside,

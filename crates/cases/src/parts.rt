@@ -2,7 +2,7 @@
 ghost use Rattle.std.specs.Prelude.{◌+◌, ◌<◌, ◌≤◌, ◌≡◌, length};
 
 // What became of a part: 0 read, 1 the stream had ended, 2 malformed; and its length, 0 where it is not read.
-#[derive(Drop)]
+#[derive(Clone, Copy)]
 pub(crate) struct Part {
     pub state: u8,
     pub length: u32,

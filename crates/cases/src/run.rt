@@ -4,7 +4,7 @@ ghost use Rattle.std.specs.Prelude.{◌≤◌};
 use crate::{lent, parts, print};
 
 // The budget, and how many words of each buffer are lent.
-#[derive(Drop)]
+#[derive(Clone, Copy)]
 struct Lent {
     budget: u64,
     result: usize,

@@ -12,7 +12,7 @@ ghost use Rattle.model.specs.Value.{compare_z};
 ghost use Rattle.chart.specs.Chart.{relation_of, case_of, chart_of};
 
 // How the first value stands to the second. Absent: one of them, or both, is absent.
-#[derive(Drop)]
+#[derive(Clone, Copy)]
 pub enum Relation {
     Less,
     Equal,
@@ -21,7 +21,7 @@ pub enum Relation {
 }
 
 // What the operator asks, and how the two values stand.
-#[derive(Drop)]
+#[derive(Clone, Copy)]
 pub enum Case {
     // =
     EqualWhenLess,

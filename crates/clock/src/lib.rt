@@ -6,7 +6,7 @@ ghost use Rattle.std.specs.Prelude.{◌-◌, ◌≡◌};
 ghost use Rattle.clock.specs.Clock.{charged, spent_at};
 
 // The trials counted, whether the budget is spent, and whether some evaluated set is too large.
-#[derive(Drop)]
+#[derive(Clone, Copy)]
 pub struct Progress {
     pub trials: u64,
     pub spent: bool,

@@ -20,7 +20,7 @@ use syntax::Question;
 use value::Value;
 
 // What marks tell of a value: its group, whether it is marked, and the trials told.
-#[derive(Drop)]
+#[derive(Clone, Copy)]
 pub struct Memory {
     pub group: usize,
     pub known: bool,

@@ -11,7 +11,7 @@ ghost use Rattle.groups.specs.Groups.{grouping, slot_place, aggregate_at};
 use value::Value;
 
 // The aggregates that name each of the five blocks: function and column, three slots for a block, 255 where none is.
-#[derive(Drop)]
+#[derive(Clone, Copy)]
 pub struct Asked {
     pub functions: [u8; 15],
     pub columns: [u8; 15],
@@ -19,7 +19,7 @@ pub struct Asked {
 }
 
 // The group of each of the five blocks that tells its aggregates at a match; 256 for those of an empty set.
-#[derive(Drop)]
+#[derive(Clone, Copy)]
 pub struct Groups {
     pub at: [usize; 5],
 }

@@ -14,7 +14,7 @@ ghost use Rattle.limits.specs.Tally.{no_tally, bump, tally_of, tally_all, sides}
 use syntax::{Block, Question, byte_at, condition_end};
 
 // How many aggregates name each block number, counted to 4, and whether four name one.
-#[derive(Drop)]
+#[derive(Clone, Copy)]
 struct Tally {
     counts: [u8; 256],
     over: bool,

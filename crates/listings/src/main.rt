@@ -8,7 +8,7 @@ ghost use Rattle.std.specs.Prelude.{◌<◌, ◌≤◌, ◌≡◌, length};
 
 // What became of an input's head: 0 read, 1 the stream had ended, 2 malformed; whether a budget stands behind the job, and
 // the length of the input.
-#[derive(Drop)]
+#[derive(Clone, Copy)]
 struct Head {
     state: u8,
     budgeted: bool,

@@ -6,7 +6,7 @@ ghost use Rattle.std.specs.Prelude.{◌≡◌};
 ghost use Rattle.model.specs.Outcome.{figures_of};
 
 // What a run answers (01, "Causes of refusal"): the number is 0 if it is accepted.
-#[derive(Drop)]
+#[derive(Clone, Copy)]
 pub struct Answer {
     pub number: u8,
     pub rows: usize,
@@ -15,7 +15,7 @@ pub struct Answer {
 }
 
 // How a run ends: it gives its rows, or it is refused by a cause from 1 to 11, by number 12 or by number 13.
-#[derive(Drop)]
+#[derive(Clone, Copy)]
 pub enum Outcome {
     Given {
         rows: usize,

@@ -20,7 +20,7 @@ use syntax::{Block, Item, Question, byte_at, condition_end, item_at};
 
 // What the elements of a block are held to: the question's descriptions, the block's number, the variables that
 // belong to it, to its proper ancestors, and to two blocks.
-#[derive(Drop)]
+#[derive(Clone, Copy)]
 pub struct Context {
     pub question: Question,
     pub block: u8,
@@ -318,7 +318,7 @@ fn number_of(words: &[i32], s: &[u8], formed: bool, q: Question) -> u8
 
 // What a question's bytes hold over these tables: the lowest number from 5 to 10 that applies, 0 where none does, and
 // the descriptions of its blocks.
-#[derive(Drop)]
+#[derive(Clone, Copy)]
 pub struct Reading {
     pub number: u8,
     pub question: Question,

@@ -17,7 +17,7 @@ use Rattle.value.specs.declared.Value.{Value}
 use Rattle.value.specs.declared.Compared.{Compared}
 use Rattle.value.specs.declared.Compared.TheVariants.{Less, Equal, Greater, Outside}
 use Rattle.value.specs.Exact.{in_words, tell, order_of}
-use Rattle.model.proofs.ValueLaws.{is-less, is_greater, is_equal}
+use Rattle.model.proofs.ValueLaws.{is-less, is_greater, is_equal as same_num}
 use Rattle.value.proofs.Laws.{wholes-inside}
 use Rattle.rows.specs.Insertion.{is_equal, is_outside, compare_from}
 use Rattle.words.specs.Words.{value_at}
@@ -75,7 +75,7 @@ module _ (x y : Value) (p : Plain x) (q : Plain y) where
 -- a plain value equals another of denominator 1 and the same numerator, which so is plain too
 pub plain-equal : (x y : Value) → Plain x → y.den ≡ pos 1 → x.num ≡ y.num → Equal ≡ order_of x y
 plain-equal x y p d e =
-    sym (ap tell (is_equal x.num y.num (irreflexive _ _ e) (irreflexive _ _ (sym e))))
+    sym (ap tell (same_num x.num y.num (irreflexive _ _ e) (irreflexive _ _ (sym e))))
     ∙ by-numerators x y p (record { whole = d; small = subst (λ z. nat_abs z ≤ 1000000000000000) e p.small })
   where
     self : (n : ℕ) (t : Bool) → ltb n n ≡ t → ltb n n ≡ false

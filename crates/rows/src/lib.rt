@@ -15,7 +15,7 @@ ghost use Rattle.words.specs.Words.{room_of};
 ghost use Rattle.rows.specs.Insertion.{find_of, as_new, added_of, words_after};
 
 // Where a row stands, or belongs.
-#[derive(Drop)]
+#[derive(Clone, Copy)]
 pub enum Place {
     New(usize),
     There(usize),
@@ -24,7 +24,7 @@ pub enum Place {
 }
 
 // What became of a row: put in as row k, there as row k, or not put in; Large: it would be the 257th.
-#[derive(Drop)]
+#[derive(Clone, Copy)]
 pub enum Added {
     New(usize),
     There(usize),
@@ -34,7 +34,7 @@ pub enum Added {
 }
 
 // Where a bisection stands: the row lo was found, or the rows from lo to hi are left.
-#[derive(Drop)]
+#[derive(Clone, Copy)]
 pub(crate) struct Walk {
     pub(crate) lo: usize,
     pub(crate) hi: usize,

@@ -11,7 +11,7 @@ ghost use Rattle.syntax.specs.Places.{runs, block, block_within, put, walk, no_b
 ghost use Rattle.syntax.specs.Places.{condition_end, well_formed};
 
 // An element of the question: its kind, its argument as a number, and the argument's first three bytes.
-#[derive(Drop)]
+#[derive(Clone, Copy)]
 pub struct Item {
     pub kind: u8,
     pub argument: u64,
@@ -21,19 +21,19 @@ pub struct Item {
 }
 
 // An element's kind and its argument as a number, no more: what is asked of an element that is no aggregate.
-#[derive(Drop)]
+#[derive(Clone, Copy)]
 pub struct Head {
     pub argument: u64,
     pub kind: u8,
 }
 
-#[derive(Drop)]
+#[derive(Clone, Copy)]
 pub struct Run {
     pub at: usize,
     pub count: usize,
 }
 
-#[derive(Drop)]
+#[derive(Clone, Copy)]
 pub struct Block {
     pub parent: u8,
     pub rows_at: usize,
@@ -45,7 +45,7 @@ pub struct Block {
     pub end: usize,
 }
 
-#[derive(Drop)]
+#[derive(Clone, Copy)]
 pub struct Question {
     pub blocks: [Block; 5],
     pub count: usize,
@@ -411,7 +411,7 @@ fn well_formed(s: &[u8], q: Question) -> bool
 }
 
 // What the bytes hold: whether they are a question's records in order (number 5), and the blocks that stand.
-#[derive(Drop)]
+#[derive(Clone, Copy)]
 pub struct Parsed {
     pub formed: bool,
     pub question: Question,

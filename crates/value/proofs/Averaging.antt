@@ -78,11 +78,11 @@ unfolding average_of
 average_large s zero h k e = absurd (omega arith)
 average_large s (suc n) h k e = simp (le-leb (suc n) 256 k, e)
 
-pub average_of : (s : ℤ) (n : ℕ) → 0 < n → n ≤ 256 → leb (nat_abs s) 256000000000000000 ≡ true
+pub average_of_lem : (s : ℤ) (n : ℕ) → 0 < n → n ≤ 256 → leb (nat_abs s) 256000000000000000 ≡ true
     → average_of s n ≡ mean.Of (lowest_of s n)
 unfolding average_of
-average_of s zero h k e = absurd (omega arith)
-average_of s (suc n) h k e = simp (le-leb (suc n) 256 k, e)
+average_of_lem s zero h k e = absurd (omega arith)
+average_of_lem s (suc n) h k e = simp (le-leb (suc n) 256 k, e)
 
 pub average_none : (s : ℤ) → average_of s 0 ≡ mean.Of (in_words model.absent)
 unfolding average_of

@@ -10,7 +10,7 @@ use mir.Syntax.{w64}
 use mir.Val.{SFits, to_z, of_z}
 use borrow.Author.Tests.{ltb-true, ltb-false, lt-ltb, le-leb, eqb-true}
 use lib.Dec.{T, eqb, ltb, leb, eqb→eq, ltb→lt, leb→le, lit<}
-use lib.IntN.{ℤ, pos, nat_abs, ◌*ℤ◌}
+use lib.IntN.{ℤ, pos, nat_abs, ◌*ℤ◌, negsuc}
 use lib.Signed.{le_z}
 use Rattle.model.specs.Value as model
 use Rattle.model.specs.Value.{compare_z, order}
@@ -43,9 +43,12 @@ pub record Inside (v : Value) : Type 0 where
 
 pub both : (a b : Bool) → T (a && b) → T a × T b
 both true true t = (tt, tt)
+both false b t = elim t [ ]
+both true false t = elim t [ ]
 
 fair : (d : ℤ) → T (le_z (pos 1) d) → T (le_z d (pos 256)) → (nat_abs d ≤ 256) × (pos (nat_abs d) ≡ d)
 fair (pos n) l u = (leb→le n 256 u, refl)
+fair (negsuc _) l u = elim l [ ]
 
 -- absent, or a numerator and a denominator that are small
 pub inside-absent : (v : Value) → T (inside_of v) → model.present (exact v) ≡ false → v ≡ in_words model.absent

@@ -18,14 +18,14 @@ ghost use Rattle.value.specs.Exact.{average_of, lowest_of};
 use chart::Relation;
 
 // A value: num / den; absent: 0 / 0.
-#[derive(Drop)]
+#[derive(Clone, Copy)]
 pub struct Value {
     pub num: i64,
     pub den: i64,
 }
 
 // The order of two values.
-#[derive(Drop)]
+#[derive(Clone, Copy)]
 pub enum Compared {
     Less,
     Equal,
@@ -34,7 +34,7 @@ pub enum Compared {
 }
 
 // Whether two values meet an operator.
-#[derive(Drop)]
+#[derive(Clone, Copy)]
 pub enum Verdict {
     Yes,
     No,
@@ -42,7 +42,7 @@ pub enum Verdict {
 }
 
 // An average.
-#[derive(Drop)]
+#[derive(Clone, Copy)]
 pub enum Mean {
     Of(Value),
     Outside,

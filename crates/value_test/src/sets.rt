@@ -157,7 +157,7 @@ pub(crate) fn absents() {
 }
 
 // A drawn number.
-#[derive(Drop)]
+#[derive(Clone, Copy)]
 struct Seed {
     x: u64,
 }

@@ -157,19 +157,19 @@ unfolding overwrite
 filled n l = ap (λ k. replicate n (pos 0) ++ drop k l) (sym (length_fill n (pos 0)))
 
 -- values zeroed in front, and behind
-pub front_zeroed : (m : ℕ) (l : List ℤ) → m ≤ room_of (length l)
+pub front_zeroed_lem : (m : ℕ) (l : List ℤ) → m ≤ room_of (length l)
     → front_zeroed m l ≡ overwrite (replicate (words_of m) (pos 0)) l
 unfolding front_zeroed
-front_zeroed m l h = simp (le-leb m (room_of (length l)) h)
+front_zeroed_lem m l h = simp (le-leb m (room_of (length l)) h)
 
 pub front_kept : (m : ℕ) (l : List ℤ) → room_of (length l) < m → front_zeroed m l ≡ l
 unfolding front_zeroed
 front_kept m l h = simp (lt-leb m (room_of (length l)) h)
 
-pub behind_zeroed : (m : ℕ) (l : List ℤ) → m ≤ room_of (length l)
+pub behind_zeroed_lem : (m : ℕ) (l : List ℤ) → m ≤ room_of (length l)
     → behind_zeroed m l ≡ take (words_of m) l ++ replicate (length l - words_of m) (pos 0)
 unfolding behind_zeroed
-behind_zeroed m l h = simp (le-leb m (room_of (length l)) h)
+behind_zeroed_lem m l h = simp (le-leb m (room_of (length l)) h)
 
 pub behind_kept : (m : ℕ) (l : List ℤ) → room_of (length l) < m → behind_zeroed m l ≡ l
 unfolding behind_zeroed

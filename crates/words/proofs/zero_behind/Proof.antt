@@ -1,5 +1,5 @@
 -- `zero_behind` meets its contract: too few values, or enough. Assumes nothing.
-use Rattle.words.proofs.WordLaws.{behind_zeroed, behind_kept, part_cleared}
+use Rattle.words.proofs.WordLaws.{behind_zeroed_lem, behind_kept, part_cleared}
 use lib.ListN.{length}
 use native.Mathlib.Omega.{arith}
 use mathlib.Core.Path.{sym, ◌∙◌}
@@ -38,7 +38,7 @@ same_length : tie.Need-same-length
 same_length c = search rules
 
 returns-2 : tie.Need-returns-2
-returns-2 c = part_cleared _ c.before.before.before.before.before.args.words.now c.before.clear.new.0 (omega (arith, c.before.before.before.before.room.ensures, c.before.before.before.if1.false)) c.before.clear.ensures ∙ sym (behind_zeroed c.before.before.before.before.before.args.m c.before.before.before.before.before.args.words.now (omega (arith, c.before.before.before.before.room.ensures, c.before.before.before.if1.false)))
+returns-2 c = part_cleared _ c.before.before.before.before.before.args.words.now c.before.clear.new.0 (omega (arith, c.before.before.before.before.room.ensures, c.before.before.before.if1.false)) c.before.clear.ensures ∙ sym (behind_zeroed_lem c.before.before.before.before.before.args.m c.before.before.before.before.before.args.words.now (omega (arith, c.before.before.before.before.room.ensures, c.before.before.before.if1.false)))
 
 pub zero-behind-spec : {M : Type 1} → statement M
 zero-behind-spec =

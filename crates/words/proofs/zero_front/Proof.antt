@@ -1,6 +1,6 @@
 -- `zero_front` meets its contract: too few values, or enough. Assumes nothing.
 use Prim.Native.Nat.{◌*◌}
-use Rattle.words.proofs.WordLaws.{front_zeroed, front_kept, filled}
+use Rattle.words.proofs.WordLaws.{front_zeroed_lem, front_kept, filled}
 use native.Mathlib.Omega.{arith}
 use mathlib.Core.Path.{sym, ◌∙◌}
 use borrow.Author.Rules.{rules}
@@ -23,7 +23,7 @@ same_length : tie.Need-same-length
 same_length c = search rules
 
 returns-2 : tie.Need-returns-2
-returns-2 c = c.before.clear.ensures ∙ filled (2 * c.before.before.before.before.before.args.m) c.before.before.before.before.before.args.words.now ∙ sym (front_zeroed c.before.before.before.before.before.args.m c.before.before.before.before.before.args.words.now (omega (arith, c.before.before.before.before.room.ensures, c.before.before.before.if1.false)))
+returns-2 c = c.before.clear.ensures ∙ filled (2 * c.before.before.before.before.before.args.m) c.before.before.before.before.before.args.words.now ∙ sym (front_zeroed_lem c.before.before.before.before.before.args.m c.before.before.before.before.before.args.words.now (omega (arith, c.before.before.before.before.room.ensures, c.before.before.before.if1.false)))
 
 pub zero-front-spec : {M : Type 1} → statement M
 zero-front-spec =

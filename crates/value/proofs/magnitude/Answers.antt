@@ -1,5 +1,4 @@
 -- `magnitude` meets its contract: the number negated, or as it is. Assumes nothing.
-use borrow.Author.Rules.{rules}
 use mathlib.Core.Path.{◌≡◌, ap, ◌∙◌}
 use Prim.Native.Nat.{◌<◌, ◌^◌}
 use native.Mathlib.Nat.{lt_trans}
@@ -9,8 +8,7 @@ use lib.IntN.{ℤ, pos, neg_ℤ, nat_abs, ◌-ℤ◌}
 use mir.Syntax.{w64}
 use mir.Val.{to_z, of_z, Fits}
 use Rattle.value.proofs.Ints.{sfits_abs, read_back, neg_back, neg_nonneg, not_neg, abs_neg}
-use Rattle.value.proofs.magnitude.Statement.{statement}
-use Rattle.value.proofs.magnitude.Tie as tie
+use Rattle.value.proofs.magnitude.Goals as goal
 
 small : (x : ℤ) → nat_abs x < 2 ^ 63 → nat_abs (neg_ℤ x) < 2 ^ 63
 small x h = rw abs_neg h
@@ -21,32 +19,26 @@ back x h = rw (neg_back x h) (read_back (neg_ℤ x) (small x h))
 word : (x : ℤ) → nat_abs x < 2 ^ 63 → Fits w64 (nat_abs x)
 word x h = record { fits = lt_trans h (lit< tt) }
 
-sub-result : tie.Need-overflow-sub-result
-sub-result c =
-    let x = c.before.args.x in
+pub overflow_sub-result : goal.overflow_sub-result
+overflow_sub-result c =
+    let x = c.args.x in
     let h : nat_abs x < 2 ^ 63 = omega arith in
     rw (neg_back x h) (sfits_abs (neg_ℤ x) (small x h))
 
-cast-result : tie.Need-overflow-cast-result
-cast-result c =
-    let x = c.before.args.x in
+pub overflow_cast-result : goal.overflow_cast-result
+overflow_cast-result c =
+    let x = c.args.x in
     let h : nat_abs x < 2 ^ 63 = omega arith in
-    rw (back x h) (neg_nonneg x (rw (read_back x h) at c.if1.true), word (neg_ℤ x) (small x h))
+    rw (back x h) (neg_nonneg x (rw (read_back x h) at c.if-x-lt0.true), word (neg_ℤ x) (small x h))
 
-returns : tie.Need-returns
-returns c =
-    let x = c.before.args.x in
+pub returns-then-x-lt0 : goal.returns-then-x-lt0
+returns-then-x-lt0 c =
+    let x = c.args.x in
     let h : nat_abs x < 2 ^ 63 = omega arith in
     ap nat_abs (back x h) ∙ abs_neg x
 
-cast-result-2 : tie.Need-overflow-cast-result-2
-cast-result-2 c =
-    let x = c.before.args.x in
+pub overflow_cast-result-2 : goal.overflow_cast-result-2
+overflow_cast-result-2 c =
+    let x = c.args.x in
     let h : nat_abs x < 2 ^ 63 = omega arith in
-    rw (read_back x h) (not_neg x (rw (read_back x h) at c.if1.false), word x h)
-
-returns-2 : tie.Need-returns-2
-returns-2 c = search rules
-
-pub magnitude-spec : {M : Type 1} → statement M
-magnitude-spec = tie.close (tie.spec sub-result cast-result returns cast-result-2 returns-2)
+    rw (read_back x h) (not_neg x (rw (read_back x h) at c.if-x-lt0.false), word x h)
