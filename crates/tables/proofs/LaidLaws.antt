@@ -35,6 +35,7 @@ pub record Laid (d : List ℤ) : Type 0 where
 between_is : (a b : ℕ) (x : ℤ) → T (between a b x) → (a ≤ nat_of x) × (nat_of x ≤ b)
 between_is a b (pos n) t =
     (leb→le a n (and_left (leb a n) (leb n b) t), leb→le n b (and_right (leb a n) (leb n b) t))
+between_is a b (negsuc _) t = elim t [ ]
 
 module _ (d : List ℤ) where
   module _ (laid : T (laid_out d)) where
@@ -64,8 +65,8 @@ module _ (d : List ℤ) where
     tables-between =
         rw (tables_is d) (between_is 1 8 (word d 0) (let s = tests in search (and_left, and_right)))
 
-    pub laid_out : Laid d
-    laid_out = record {
+    pub laid_out_lem : Laid d
+    laid_out_lem = record {
       some-tables = tables-between.0;
       few-tables = tables-between.1;
       some-columns = λ t h. (columns-between t h).0;
@@ -77,7 +78,7 @@ module _ (d : List ℤ) where
 
   pub accepted-laid : first_of (data_causes d) ≡ 0 → Laid d
   accepted-laid z =
-      laid_out (data_passes d [] (subst (λ cs. first_of cs ≡ 0) (sym (append-nil (data_causes d))) z)).0.laid
+      laid_out_lem (data_passes d [] (subst (λ cs. first_of cs ≡ 0) (sym (append-nil (data_causes d))) z)).0.laid
 
   -- ---- the places
   at_next : (t : ℕ) → table_at d (suc t) ≡ table_at d t + columns d t * rows d t

@@ -1,0 +1,16 @@
+-- `moves::put_row` meets its contract: after c turns the first c columns are in place. Assumes nothing.
+use Prim.Native.Nat.{◌+◌, ◌-◌, ◌≤◌}
+use native.Mathlib.Omega.{arith}
+use mathlib.Core.Path.{◌≡◌, refl, ap₂, ◌∙◌}
+use lib.ListN.{length}
+use lib.Seq.{paste, paste-zero}
+use Rattle.words.specs.Words.{words_of, with_value}
+use Rattle.words.proofs.WordLaws.{paste_value}
+use Rattle.words.proofs.moves.put_row.Given as goal
+
+abbrev pub invariant-loop-c : goal.invariant-loop-c
+invariant-loop-c l =
+    (l.c ≤ l.n) × (length l.words ≡ length l.initial.words) × (l.words ≡ paste l.initial.words (words_of l.p) l.row (words_of l.c))
+
+abbrev pub decreases-loop-c : goal.decreases-loop-c
+decreases-loop-c l = 4 - l.c
