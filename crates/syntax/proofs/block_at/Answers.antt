@@ -3,6 +3,7 @@ use mathlib.Core.Logic.{⊎_elim}
 use mathlib.Core.Path.{sym, ◌∙◌}
 use Rattle.syntax.proofs.Laws.{record_in, block_read, block_bare, with_bare, with_some}
 use Rattle.syntax.proofs.block_at.Goals as goal
+use Rattle.syntax.proofs.block_at.Goals.{then-record_ok+else-record_ok-2, else-record_ok}
 
 pub overflow_add-rw : goal.overflow_add-rw
 overflow_add-rw c = let h = record_in 3 c.args.s.now c.args.at
@@ -59,10 +60,10 @@ pub returns : goal.returns
 returns c =
     let given = c.args in
     c.no_block.ensures
-    ∙ ⊎_elim
-    (λ w.
-    sym (with_bare given.s.now given.at w.1.result w.2.result (sym w.3.ensures ∙ w.4.left))
-    ∙ block_read given.s.now given.at (sym c.record_ok.ensures ∙ w.0.taken) w.1.ensures.0
-    w.2.ensures.0)
-    (λ w. sym (block_bare given.s.now given.at (sym c.record_ok.ensures ∙ w.left)))
-    c.if-record_ok.branch
+    ∙ elim c.if-record_ok.branch [
+      then-record_ok+else-record_ok-2 w ↦
+      sym (with_bare given.s.now given.at w.run_of-r.result w.run_of-c.result
+      (sym w.record_ok-then-record_ok.ensures ∙ w.if-record_ok-2.false))
+      ∙ block_read given.s.now given.at (sym c.record_ok.ensures ∙ w.if-record_ok.true) w.run_of-r.ensures.0
+      w.run_of-c.ensures.0
+    | else-record_ok w ↦ sym (block_bare given.s.now given.at (sym c.record_ok.ensures ∙ w.if-record_ok.false)) ]
