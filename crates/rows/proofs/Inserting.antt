@@ -196,6 +196,8 @@ module _ (n : ℕ) (l x : List ℤ) (rows : List Row) (c : Row) (R : Ready n l x
           kept k z i (ap (words_after n count l x) z ∙ sym (after-there n count l x k))
       go (place.New k) e (new h i) =
           outcome-new k h i (placed n count l x (place.New k) (found n count l x fits ∙ sym e)) (leb 256 count) refl
+      go place.Outside e x3 = elim x3 [ ]
+      go place.Refused e x4 = elim x4 [ ]
 
 -- ---- and so the words at exit hold the model's set, unless it is too large
 prefix : (n : ℕ) (rows : List Row) (rest : List ℤ) → All (λ r. length r ≡ n) rows

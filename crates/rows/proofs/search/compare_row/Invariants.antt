@@ -1,0 +1,14 @@
+-- `search::compare_row` meets its contract: the columns before c are equal. Assumes nothing.
+use Prim.Native.Nat.{◌-◌}
+use native.Mathlib.Omega.{arith}
+use mathlib.Core.Path.{sym, ap₂, ◌∙◌}
+use borrow.Author.Tests.{not-true, not-false}
+use Rattle.value.specs.Exact.{order_of}
+use Rattle.rows.proofs.CompareLoop.{Alike, alike_begin, alike-more, alike-stop, alike_end}
+use Rattle.rows.proofs.search.compare_row.Given as goal
+
+abbrev pub invariant-loop-c : goal.invariant-loop-c
+invariant-loop-c l = Alike l.n l.row l.words l.at l.c
+
+abbrev pub decreases-loop-c : goal.decreases-loop-c
+decreases-loop-c l = l.n - l.c

@@ -1,0 +1,19 @@
+-- `search::finish` meets its contract: `Between` holds before each turn; hi - lo falls. Assumes nothing.
+use Prim.Native.Nat.{◌-◌, ◌<◌}
+use native.Mathlib.Omega.{arith}
+use mathlib.Core.Path.{sym, ◌∙◌}
+use lib.ListN.{length}
+use Rattle.rows.specs.Insertion.{at_place, middle, bisect}
+use Rattle.words.specs.Words.{room_of}
+use Rattle.words.proofs.WordLaws.{product-few}
+use Rattle.rows.proofs.CaseLaws.{place-fits}
+use Rattle.rows.proofs.SearchLoop.{Between, between-begin, between-there, between-outside, between_more}
+use Rattle.rows.proofs.SearchLoop.{between-end, narrower, middle_below}
+use Rattle.rows.proofs.search.finish.Given as goal
+
+abbrev pub invariant-loop-lo : goal.invariant-loop-lo
+invariant-loop-lo l =
+    Between (at_place l.n l.row l.words) (bisect (at_place l.n l.row l.words) (l.to - l.from) l.from l.to) l.to l.lo l.hi
+
+abbrev pub decreases-loop-lo : goal.decreases-loop-lo
+decreases-loop-lo l = l.hi - l.lo

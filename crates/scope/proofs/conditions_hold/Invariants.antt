@@ -1,0 +1,16 @@
+-- The mask has what the conditions passed hold, and with the rest that is what all of them hold. Past the end of the
+-- bytes the rest holds nothing, so that the loop may stop there.
+-- Assumes nothing.
+use native.Mathlib.Omega.{arith}
+use lib.ListN.{length}
+use Rattle.syntax.specs.Places.{condition_end}
+use Rattle.scope.specs.Gathering.{condition_holds, conditions_hold}
+use Rattle.scope.proofs.GatheringLaws.{Gathered, gather_begin, going, records-gathered, conditions-end}
+use Rattle.scope.proofs.conditions_hold.Given as goal
+
+abbrev pub invariant-loop-more : goal.invariant-loop-more
+invariant-loop-more l =
+    Gathered (conditions_hold l.kind l.s l.n l.at) l.mask (conditions_hold l.kind l.s l.more l.i)
+
+abbrev pub decreases-loop-more : goal.decreases-loop-more
+decreases-loop-more l = l.more
