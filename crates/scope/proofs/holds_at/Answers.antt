@@ -10,7 +10,7 @@ returns-then-kind_of-kind c =
     let a = c.args in
     let item = c.item_at-e in
     let kind = c.kind_of in
-    let number = c.number_of_lem in
+    let number = c.number_of in
     c.bit.ensures
     ∙ held-is a.kind a.s.now a.at item.result item.ensures kind.result kind.ensures
     number.result number.ensures c.if-kind_of-kind.true
