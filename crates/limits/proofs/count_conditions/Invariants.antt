@@ -1,0 +1,17 @@
+-- `limits::count_conditions` meets its contract. The loop's invariant: the conditions left, counted after those passed,
+-- give the whole. Where the bytes end the elements left are empty.
+use native.Mathlib.Omega.{arith}
+use mathlib.Core.Path.{◌≡◌, refl}
+use lib.ListN.{length}
+use Rattle.model.specs.Lists.{concat_map}
+use Rattle.syntax.specs.Described.{conditions_at}
+use Rattle.limits.specs.Tally.{tally_all, sides}
+use Rattle.limits.proofs.Steps.{going, conditions-turn, conditions-done}
+use Rattle.limits.proofs.count_conditions.Given as goal
+
+abbrev pub invariant-loop-more : goal.invariant-loop-more
+invariant-loop-more l =
+    tally_all l.y (concat_map sides (conditions_at l.s l.more l.i)) ≡ tally_all l.initial.y (concat_map sides (conditions_at l.s l.n l.at))
+
+abbrev pub decreases-loop-more : goal.decreases-loop-more
+decreases-loop-more l = l.more

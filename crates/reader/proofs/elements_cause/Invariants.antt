@@ -1,0 +1,13 @@
+use native.Mathlib.Omega.{arith}
+use mathlib.Core.Path.{ap, refl, ◌∙◌}
+use lib.ListN.{length}
+use Rattle.reader.specs.Walk.{element_cause, elements_cause}
+use Rattle.reader.proofs.KindLaws.{Left, going, elements-stop, elements-more}
+use Rattle.reader.proofs.elements_cause.Given as goal
+
+abbrev pub invariant-loop-more : goal.invariant-loop-more
+invariant-loop-more l =
+    Left (elements_cause l.s l.x l.n l.at l.m) (elements_cause l.s l.x l.more l.i l.least) l.least
+
+abbrev pub decreases-loop-more : goal.decreases-loop-more
+decreases-loop-more l = l.more
