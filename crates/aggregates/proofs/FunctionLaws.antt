@@ -53,6 +53,7 @@ over-max vs = refl
 -- the sum of at most 256 values is small, so the average is given
 true_of : (b : Bool) → T b → b ≡ true
 true_of true t = refl
+true_of false t = elim t [ ]
 
 sum-small : (vs : List Value) → all inside_of vs ≡ true
     → nat_abs (total (present_of (map exact vs))) ≤ length vs * 1000000000000000

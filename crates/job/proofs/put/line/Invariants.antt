@@ -1,0 +1,14 @@
+-- After j turns the first j fields are put.
+use Prim.Native.Nat.{◌-◌, ◌≤◌}
+use native.Mathlib.Omega.{arith}
+use mathlib.Core.Path.{◌≡◌, ◌∙◌}
+use Rattle.job.specs.Texts.{Wrote, fields_text}
+use Rattle.job.proofs.WroteLaws.{wrote_none, wrote-length, wrote-within}
+use Rattle.job.proofs.RowLaws.{line_none, line-more, line-end}
+use Rattle.job.proofs.put.line.Given as goal
+
+abbrev pub invariant-loop-j : goal.invariant-loop-j
+invariant-loop-j l = Wrote l.at (fields_text l.words l.p l.j) l.initial.out l.out l.next × (l.j ≤ l.columns)
+
+abbrev pub decreases-loop-j : goal.decreases-loop-j
+decreases-loop-j l = l.columns - l.j
