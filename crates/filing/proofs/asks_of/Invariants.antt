@@ -1,0 +1,17 @@
+-- `filing::asks_of` meets its contract. The loop's invariant: the blocks from the k-th on, after those passed, give
+-- the whole. Five blocks are kept, whatever the count.
+use Rattle.std.proofs.Common.{rules}
+use Prim.Native.Nat.{◌+◌, ◌-◌}
+use native.Mathlib.Omega.{arith}
+use mathlib.Core.Path.{◌≡◌, refl, sym, ap, ◌∙◌}
+use lib.ListN.{length-map}
+use Rattle.limits.specs.Limits.{others_in}
+use Rattle.filing.specs.Asks.{no_asked, ask_all}
+use Rattle.filing.proofs.Walks.{going-blocks, others_from, blocks_start, blocks-turn, blocks-done}
+use Rattle.filing.proofs.asks_of.Given as goal
+
+abbrev pub invariant-loop-k : goal.invariant-loop-k
+invariant-loop-k l = (l.n ≡ l.q.count) × (ask_all l.y (others_from l.s l.q l.k) ≡ ask_all no_asked (others_in l.s l.q))
+
+abbrev pub decreases-loop-k : goal.decreases-loop-k
+decreases-loop-k l = l.n - l.k

@@ -1,0 +1,18 @@
+-- `filing::slots::file_slots` meets its contract. The loop's invariant: the slots before the i-th are filled, and no
+-- other. Past the fifth block there is nothing to fill.
+use Rattle.std.proofs.Common.{rules}
+use Prim.Native.Nat.{◌+◌, ◌*◌, ◌-◌, ◌≤◌}
+use native.Mathlib.Omega.{arith}
+use mathlib.Core.Logic.{⊎_elim}
+use mathlib.Core.Path.{◌≡◌, refl, ap, ◌∙◌}
+use lib.ListN.{length, get_or}
+use Rattle.filing.proofs.Cases.{slots_to, slots_begin, slots_end, slots_past, slots-left, slots-put}
+use Rattle.filing.proofs.FileLaws.{slots_length}
+use Rattle.filing.proofs.slots.file_slots.Given as goal
+
+abbrev pub invariant-loop-i : goal.invariant-loop-i
+invariant-loop-i l =
+    (l.i ≤ 3) × (l.files ≡ slots_to l.a l.block l.group l.n l.count l.sets l.initial.files l.i)
+
+abbrev pub decreases-loop-i : goal.decreases-loop-i
+decreases-loop-i l = 3 - l.i

@@ -1,0 +1,18 @@
+-- `filing::walk::ask_conditions` meets its contract. The loop's invariant: the conditions left, after those passed,
+-- give the whole. Where the bytes end the elements left are empty.
+use Prim.Native.Nat.{◌+◌, ◌-◌}
+use native.Mathlib.Omega.{arith}
+use mathlib.Core.Path.{◌≡◌, refl, sym, ap, ◌∙◌}
+use lib.ListN.{length}
+use Rattle.model.specs.Lists.{concat_map}
+use Rattle.syntax.specs.Described.{element_at, conditions_at}
+use Rattle.filing.specs.Asks.{ask_of, ask_all, sides}
+use Rattle.filing.proofs.Walks.{going, conditions-turn, conditions-done}
+use Rattle.filing.proofs.walk.ask_conditions.Given as goal
+
+abbrev pub invariant-loop-more : goal.invariant-loop-more
+invariant-loop-more l =
+    ask_all l.y (concat_map sides (conditions_at l.s l.more l.i)) ≡ ask_all l.initial.y (concat_map sides (conditions_at l.s l.n l.at))
+
+abbrev pub decreases-loop-more : goal.decreases-loop-more
+decreases-loop-more l = l.more

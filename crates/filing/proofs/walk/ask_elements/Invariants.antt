@@ -1,0 +1,16 @@
+-- `filing::walk::ask_elements` meets its contract. The loop's invariant: the elements left, after those passed, give
+-- the whole. Where the bytes end the elements left are empty.
+use Prim.Native.Nat.{◌+◌, ◌-◌}
+use native.Mathlib.Omega.{arith}
+use mathlib.Core.Path.{◌≡◌, refl, sym, ap, ◌∙◌}
+use lib.ListN.{length}
+use Rattle.syntax.specs.Described.{elements_at}
+use Rattle.filing.specs.Asks.{ask_all}
+use Rattle.filing.proofs.Walks.{going, elements_turn, elements_done}
+use Rattle.filing.proofs.walk.ask_elements.Given as goal
+
+abbrev pub invariant-loop-more : goal.invariant-loop-more
+invariant-loop-more l = ask_all l.y (elements_at l.s l.more l.i) ≡ ask_all l.initial.y (elements_at l.s l.n l.at)
+
+abbrev pub decreases-loop-more : goal.decreases-loop-more
+decreases-loop-more l = l.more
