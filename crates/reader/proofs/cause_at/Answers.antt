@@ -10,7 +10,8 @@ block_cause-requires c = subst (λ z. z ≤ 11) (sym c.lower.ensures)
     c.requires)
 
 pub returns : goal.returns
-returns c = record { is = cause_is c.args.words.now
+returns c = record {
+  is = cause_is c.args.words.now
       c.args.s.now
       c.args.q
       c.args.twice
@@ -22,4 +23,6 @@ returns c = record { is = cause_is c.args.words.now
       c.context_of-x.ensures c.kept-b.ensures
       (c.place_cause.ensures
       c.args.s.now) c.lower.ensures
-      c.block_cause.ensures.is; small = c.block_cause.ensures.small }
+      c.block_cause.ensures.is;
+  small = c.block_cause.ensures.small;
+}

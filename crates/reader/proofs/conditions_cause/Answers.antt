@@ -35,6 +35,9 @@ loop-more-preserved c =
     c.condition_end-i.ensures l.invariant
 
 pub returns : goal.returns
-returns c = record { is = conditions-stop c.args.s.now c.args.x
+returns c = record {
+  is = conditions-stop c.args.s.now c.args.x
       c.loop-more.more c.loop-more.i c.loop-more.least _ c.loop-more-test.false
-      c.loop-more.invariant; small = c.loop-more.invariant.small }
+      c.loop-more.invariant;
+  small = c.loop-more.invariant.small;
+}

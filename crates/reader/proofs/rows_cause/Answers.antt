@@ -84,6 +84,9 @@ loop-more-preserved c = let g = going c.loop-more.more
     c.loop-more.invariant
 
 pub returns : goal.returns
-returns c = record { is = rows-stop c.args.words.now c.args.s.now
+returns c = record {
+  is = rows-stop c.args.words.now c.args.s.now
       c.args.x c.loop-more.more c.loop-more.i c.loop-more.least _
-      c.loop-more-test.false c.loop-more.invariant; small = c.loop-more.invariant.small }
+      c.loop-more-test.false c.loop-more.invariant;
+  small = c.loop-more.invariant.small;
+}

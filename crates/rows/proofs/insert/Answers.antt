@@ -21,22 +21,34 @@ put_new-requires c =
 
 pub returns-in-There : goal.returns-in-There
 returns-in-There c =
-    let a = c.args in record { value = sym (placed a.n a.count a.words.now a.row.now _
-          (sym c.find-p.ensures ∙ c.in-There.is)); words_after = after-there a.n a.count a.words.now a.row.now _ }
+    let a = c.args in record {
+      value = sym (placed a.n a.count a.words.now a.row.now _
+          (sym c.find-p.ensures ∙ c.in-There.is));
+      words_after = after-there a.n a.count a.words.now a.row.now _;
+    }
 
 pub returns-in-Outside : goal.returns-in-Outside
 returns-in-Outside c =
-    let a = c.args in record { value = sym (placed a.n a.count a.words.now a.row.now _
-          (sym c.find-p.ensures ∙ c.in-Outside.is)); words_after = after-outside a.n a.count a.words.now a.row.now }
+    let a = c.args in record {
+      value = sym (placed a.n a.count a.words.now a.row.now _
+          (sym c.find-p.ensures ∙ c.in-Outside.is));
+      words_after = after-outside a.n a.count a.words.now a.row.now;
+    }
 
 pub returns-in-Refused : goal.returns-in-Refused
 returns-in-Refused c =
-    let a = c.args in record { value = sym (placed a.n a.count a.words.now a.row.now _
-          (sym c.find-p.ensures ∙ c.in-Refused.is)); words_after = after-refused a.n a.count a.words.now a.row.now }
+    let a = c.args in record {
+      value = sym (placed a.n a.count a.words.now a.row.now _
+          (sym c.find-p.ensures ∙ c.in-Refused.is));
+      words_after = after-refused a.n a.count a.words.now a.row.now;
+    }
 
 pub returns-in-New : goal.returns-in-New
 returns-in-New c =
-    let a = c.args in record { value = c.put_new.ensures.value
+    let a = c.args in record {
+      value = c.put_new.ensures.value
           ∙ sym (placed a.n a.count a.words.now a.row.now _
           (sym c.find-p.ensures
-          ∙ c.in-New.is)); words_after = c.put_new.ensures.words_after }
+          ∙ c.in-New.is));
+      words_after = c.put_new.ensures.words_after;
+    }

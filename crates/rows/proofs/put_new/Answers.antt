@@ -52,6 +52,9 @@ returns c =
     let w = room_of (length a.words.now) in
     let m = mul-le-mul_right a.n pre.0 in
     let fit = insertable-all (a.k * a.n) (a.count * a.n) a.n w (room_of (length a.row.now)) pre.1 m pre.3
-    (omega arith) in record { value = sym (new-put a.n a.count w a.k (omega arith) (omega arith)); words_after = c.insert_values.ensures.words_after
+    (omega arith) in record {
+      value = sym (new-put a.n a.count w a.k (omega arith) (omega arith));
+      words_after = c.insert_values.ensures.words_after
           ∙ inserted (a.k * a.n) (a.count * a.n) a.n a.row.now a.words.now fit
-          ∙ after-new a.n a.count a.words.now a.row.now a.k }
+          ∙ after-new a.n a.count a.words.now a.row.now a.k;
+    }

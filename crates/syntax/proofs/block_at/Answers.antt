@@ -61,9 +61,10 @@ returns c =
     let given = c.args in
     c.no_block.ensures
     ∙ elim c.if-record_ok.branch [
-      then-record_ok+else-record_ok-2 w ↦
-      sym (with_bare given.s.now given.at w.run_of-r.result w.run_of-c.result
-      (sym w.record_ok-then-record_ok.ensures ∙ w.if-record_ok-2.false))
-      ∙ block_read given.s.now given.at (sym c.record_ok.ensures ∙ w.if-record_ok.true) w.run_of-r.ensures.0
-      w.run_of-c.ensures.0
-    | else-record_ok w ↦ sym (block_bare given.s.now given.at (sym c.record_ok.ensures ∙ w.if-record_ok.false)) ]
+      | then-record_ok+else-record_ok-2 w ↦
+          sym (with_bare given.s.now given.at w.run_of-r.result w.run_of-c.result
+          (sym w.record_ok-then-record_ok.ensures ∙ w.if-record_ok-2.false))
+          ∙ block_read given.s.now given.at (sym c.record_ok.ensures ∙ w.if-record_ok.true) w.run_of-r.ensures.0
+          w.run_of-c.ensures.0
+      | else-record_ok w ↦ sym (block_bare given.s.now given.at (sym c.record_ok.ensures ∙ w.if-record_ok.false))
+    ]

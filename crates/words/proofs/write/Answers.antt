@@ -11,5 +11,8 @@ returns-then-p-room c =
 
 pub returns : goal.returns
 returns c =
-    let a = c.args in record { value = sym (lt-ltb a.p _ (omega arith)); words_after = c.put.ensures
-          ∙ sym (write_in a.words.now a.p a.v (omega arith)) }
+    let a = c.args in record {
+      value = sym (lt-ltb a.p _ (omega arith));
+      words_after = c.put.ensures
+          ∙ sym (write_in a.words.now a.p a.v (omega arith));
+    }

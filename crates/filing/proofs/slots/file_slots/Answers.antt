@@ -35,18 +35,19 @@ loop-i-preserved c =
     let wide : length given.a.columns ≡ 15 = search rules in (
       omega (arith, c.loop-i-test.true),
       elim c.if-function.branch [
-        then-function w ↦
-        w.files-is
-        ∙ slots-put given.a given.block given.group given.n given.count k i
-        (get_or given.a.functions (3 * k + i) 0) given.sets.now given.files.now c.loop-i.files
-        c.size-k.ensures.0 (omega arith) refl c.loop-i.invariant.1
-        (get_or given.a.columns (3 * k + i) 0) c.slot_place-at.result w.put_slot.new.files
-        (λ e. omega (arith, w.if-function.true, e)) (omega arith) refl c.slot_place-at.ensures.0 w.put_slot.ensures
-      | else-function w ↦
-        w.files-is
-        ∙ slots-left given.a given.block given.group given.n given.count k i
-        (get_or given.a.functions (3 * k + i) 0) given.sets.now given.files.now c.loop-i.files
-        c.size-k.ensures.0 (omega arith) refl c.loop-i.invariant.1 (omega (arith, w.if-function.false)) ],
+        | then-function w ↦
+            w.files-is
+            ∙ slots-put given.a given.block given.group given.n given.count k i
+            (get_or given.a.functions (3 * k + i) 0) given.sets.now given.files.now c.loop-i.files
+            c.size-k.ensures.0 (omega arith) refl c.loop-i.invariant.1
+            (get_or given.a.columns (3 * k + i) 0) c.slot_place-at.result w.put_slot.new.files
+            (λ e. omega (arith, w.if-function.true, e)) (omega arith) refl c.slot_place-at.ensures.0 w.put_slot.ensures
+        | else-function w ↦
+            w.files-is
+            ∙ slots-left given.a given.block given.group given.n given.count k i
+            (get_or given.a.functions (3 * k + i) 0) given.sets.now given.files.now c.loop-i.files
+            c.size-k.ensures.0 (omega arith) refl c.loop-i.invariant.1 (omega (arith, w.if-function.false))
+      ],
     )
 
 pub shape_of-files : goal.shape_of-files
