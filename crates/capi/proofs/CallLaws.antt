@@ -4,14 +4,13 @@ use Prim.Native.Nat.{ℕ, ◌≤◌, ◌<◌}
 use native.Mathlib.Omega.{arith}
 use mathlib.Core.Bool.{Bool, true, false, ◌&&◌}
 use mathlib.Core.List.{List, [], ◌∷◌}
-use mathlib.Core.Path.{◌≡◌, refl, sym, ◌∙◌, ap, subst}
+use mathlib.Core.Path.{◌≡◌, refl, ◌∙◌, ap}
 use borrow.Author.Tests.{le-leb, lt-leb, le-ltb, ltb-true, ltb-false}
-use lib.Dec.{T, leb, ltb}
+use lib.Dec.{ltb}
 use lib.IntN.{ℤ}
 use lib.ListN.{length, set}
 use Rattle.engine.specs.Runs.{lengths_of}
 use Rattle.model.specs.Answer.{answer_of, result_after, sets_after, files_after, indexes_after}
-use Rattle.model.specs.Index.{index_number, index_after, index_causes}
 use Rattle.model.specs.Lists.{overwrite}
 use Rattle.model.specs.Refusal.{first_of, data_causes}
 use Rattle.model.specs.Tables.{tables, columns}

@@ -1,10 +1,10 @@
 -- Demand 3 for runs (specs/RunAgreement has its statements): the model's theorems, said of what two runs answered and left
 -- in their results. Assumes nothing.
-use Prim.Native.Nat.{ℕ, ◌≤◌, min}
+use Prim.Native.Nat.{ℕ}
 use native.Mathlib.Omega.{arith}
 use mathlib.Core.List.{List}
 use mathlib.Core.Logic.{◌⊎◌, inl, inr}
-use mathlib.Core.Path.{◌≡◌, sym, ◌∙◌, ap, subst}
+use mathlib.Core.Path.{sym, ◌∙◌, ap, subst}
 use lib.IntN.{ℤ}
 use Rattle.model.specs.Answer.{answer_of, written_of, result_after}
 use Rattle.model.specs.Lists.{overwrite}
@@ -12,7 +12,7 @@ use Rattle.model.specs.PlanAgreement.{OneRun, BothLarge, BothGiven, BothLargeOrG
 use Rattle.model.specs.Refusal.{Lengths}
 use Rattle.model.specs.declared.Answer.{Answer}
 use Rattle.model.proofs.PlansAgree.{plans_agree, change_never_raises}
-use Rattle.engine.specs.RunAgreement.{RanAs, SameRows, RunsAgree, TwoRunsOf, AnyRunsAgree, ChangeNeverRaised}
+use Rattle.engine.specs.RunAgreement.{SameRows, RunsAgree, TwoRunsOf, AnyRunsAgree, ChangeNeverRaised}
 
 module _ (d : List ℤ) (qs ps ps' : List ℕ) (budget budget' : ℕ) (a b : Answer) (r r' s s' : List ℤ)
     (two : TwoRunsOf d qs ps ps' budget budget' a b r r' s s') where

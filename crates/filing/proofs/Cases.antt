@@ -16,7 +16,6 @@ use Rattle.groups.specs.declared.Asked.{Asked}
 use Rattle.groups.proofs.GroupLaws.{default-inside, default-past}
 use Rattle.aggregates.specs.Columns.{aggregate_in}
 use Rattle.words.specs.Words.{read_at, words_with, words_zeroed}
-use Rattle.value.specs.declared.Value.{Value}
 use Rattle.filing.specs.Files.{is_filed, words_before, words_in, emptied, told, slot_value, slot_filed}
 use Rattle.filing.specs.Files.{slots_filed, filled_mark, filed}
 

@@ -7,7 +7,7 @@
 --   slot_place k n i            the place of the value of its slot i
 --   aggregate_at a fl g f k c   function f of column c of block k's set, as its group tells; where there is none,
 --                              that of an empty set
-use Rattle.std.specs.Prelude.{ℕ, ◌+◌, ◌*◌, ◌-◌, Bool, ◌&&◌, cond, List, ltb, ℤ, get_or}
+use Rattle.std.specs.Prelude.{ℕ, ◌+◌, ◌*◌, ◌-◌, ◌&&◌, cond, List, ltb, ℤ, get_or}
 use Rattle.buffers.specs.Parts.{file_places}
 use Rattle.words.specs.Words.{read_at}
 use Rattle.value.specs.Exact.{empty_of}

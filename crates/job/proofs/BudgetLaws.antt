@@ -2,7 +2,7 @@
 --   budget-taken, budget-left   it is as the code's test and calls tell of it
 --   eight-told                  eight bytes by place are the number that they are
 --   budget-told                 the budget that the last fourteen bytes are, by place; budget-begins: where they begin
-use Prim.Native.Nat.{ℕ, zero, suc, ◌+◌, ◌*◌, ◌-◌, ◌≤◌}
+use Prim.Native.Nat.{ℕ, ◌+◌, ◌*◌, ◌-◌, ◌≤◌}
 use native.Mathlib.Omega.{arith}
 use mathlib.Core.Bool.{Bool, true, false, ◌&&◌, cond}
 use mathlib.Core.List.{List, [], ◌∷◌}

@@ -3,7 +3,7 @@ use Prim.Native.Nat.{ℕ, zero, suc, ◌<◌}
 use native.Mathlib.Omega.{arith}
 use mathlib.Core.Bool.{Bool, true, false, ◌&&◌}
 use mathlib.Core.List.{List, [], ◌∷◌}
-use mathlib.Core.Path.{◌≡◌, refl, sym, ◌∙◌, ap, ap₂}
+use mathlib.Core.Path.{◌≡◌, refl, sym, ◌∙◌, ap}
 use lib.Dec.{ltb→lt, ltb}
 use lib.ListN.{length}
 use Rattle.model.specs.AbsentValues.{EmptySetAbsent, AbsentMeetsNothing, AbsentsEqual, AbsentFirst, told_in}
@@ -11,7 +11,7 @@ use Rattle.model.specs.AbsentValues.{AggregatePassesOver, AverageByRemaining, Co
 use Rattle.model.specs.Aggregate.{column_at, column_of, present_of, total, sum_of, min_of, max_of, ave_of, aggregate_of}
 use Rattle.model.specs.Lists.{filter}
 use Rattle.model.specs.RowSet.{Row, lexicographic}
-use Rattle.model.specs.Value.{Value, absent, present, ratio, order, meets}
+use Rattle.model.specs.Value.{Value, present, ratio, order, meets}
 use Rattle.model.proofs.AggregateEquations.{present_of-nil, present_of-kept, present_of-passed}
 use Rattle.model.proofs.EvaluatedSizes.{evaluated-fits}
 use Rattle.model.proofs.Lists.{map-length}

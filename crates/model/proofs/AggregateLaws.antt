@@ -6,14 +6,12 @@
 use Prim.Native.Nat.{ℕ, zero, suc, ◌≤◌}
 use mathlib.Core.Bool.{Bool, true, false}
 use mathlib.Core.List.{List, [], ◌∷◌}
-use mathlib.Core.Path.{◌≡◌, refl, sym, ◌∙◌, ap}
 use lib.ListN.{length}
 use Rattle.model.specs.Aggregate.{column_at, column_of, present_of, lesser, greater, least_from, greatest_from}
-use Rattle.model.specs.Aggregate.{min_of, max_of, aggregate_of}
-use Rattle.model.specs.Lists.{All, filter}
+use Rattle.model.specs.Aggregate.{min_of, max_of}
+use Rattle.model.specs.Lists.{All}
 use Rattle.model.specs.RowSet.{Row}
 use Rattle.model.specs.Value.{Value, zero_value, absent, present, order, is_lt}
-use Rattle.model.proofs.AggregateEquations.{present_of-kept, present_of-passed}
 use Rattle.model.proofs.Lists.{all_filter}
 use Rattle.model.proofs.Tests.{filter-length}
 

@@ -7,7 +7,7 @@
 --   least_from x xs, greatest_from x xs   the least and the greatest of x and further values
 --   sum_of, min_of, max_of, ave_of   of values that are present
 --   aggregate_of f c rs    function f (0 count, 1 sum, 2 min, 3 max, 4 ave) of column c of a set
-use Rattle.std.specs.Prelude.{ℕ, zero, suc, Bool, true, false, List, [], ◌∷◌, map, ℤ, pos, ◌+ℤ◌, length, get_or}
+use Rattle.std.specs.Prelude.{ℕ, zero, suc, true, false, List, [], ◌∷◌, map, ℤ, pos, ◌+ℤ◌, length, get_or}
 use Rattle.model.specs.Lists.{filter}
 use Rattle.model.specs.RowSet.{Row}
 use Rattle.model.specs.Value.{Value, whole, zero_value, absent, present, ratio, order, is_lt}

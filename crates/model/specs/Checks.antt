@@ -14,7 +14,7 @@
 use Rattle.std.specs.Prelude.{ℕ, zero, suc, Bool, true, false, ◌&&◌, ◌||◌, not, List, eqb, ltb, leb, ℤ, nat_abs, length, get_or}
 use Rattle.model.specs.Lists.{all, any, filter, range, concat_map}
 use Rattle.model.specs.Question.{Element, empty, constant, variable, fixed, aggregate}
-use Rattle.model.specs.Question.{RelationRow, Block, block_at}
+use Rattle.model.specs.Question.{Block, block_at}
 use Rattle.model.specs.Question.{names, elements}
 use Rattle.model.specs.Scope.{levels, owns, within, level_of}
 use Rattle.model.specs.Tables.{tables, columns}

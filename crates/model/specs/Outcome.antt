@@ -1,7 +1,6 @@
 -- The paper's number and figures for each way in which a run ends (01, "Causes of refusal": the column "Returned").
 --   figures_of o        zeros under 1 to 11; the budget as trials under 12, trials in full under 13, rows and columns
 --                      zero
-use Rattle.std.specs.Prelude.{ℕ}
 use Rattle.model.specs.declared.Answer.{Answer}
 use Rattle.model.specs.declared.Outcome.{Outcome}
 use Rattle.model.specs.declared.Outcome.TheVariants.{Given, Refused, OverBudget, TooLarge}

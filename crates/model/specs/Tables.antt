@@ -13,7 +13,7 @@
 --   between a b x      word x is a count from a to b
 --   laid_out d          cause 3 does not apply: counts, length and layout are right
 --   in_range d          cause 4 does not apply: each cell is from -1,000,000 to 1,000,000
-use Rattle.std.specs.Prelude.{ℕ, zero, suc, ◌+◌, ◌*◌, Bool, true, false, ◌&&◌, List, [], ◌∷◌, map, eqb, ltb, leb, ℤ, pos, negsuc, nat_abs, length, get_or, drop}
+use Rattle.std.specs.Prelude.{ℕ, zero, suc, ◌+◌, ◌*◌, Bool, true, false, ◌&&◌, List, [], map, eqb, ltb, leb, ℤ, pos, negsuc, nat_abs, length, get_or, drop}
 use Rattle.model.specs.Lists.{all, range}
 
 abbrev pub word : List ℤ → ℕ → ℤ

@@ -30,7 +30,6 @@ use Rattle.syntax.proofs.Lie.{Lies}
 use Rattle.syntax.proofs.Whole.{all_blocks, reading-holds, read_is, count_is, all_lie}
 use Rattle.syntax.specs.Described.{described, blocks_in}
 use Rattle.syntax.specs.Places.{no_block, reading}
-use Rattle.syntax.specs.declared.Block.{Block}
 use Rattle.syntax.specs.declared.Question.{Question}
 use borrow.Author.Tests.{lt-ltb, leb-true}
 use Rattle.model.specs.Question as model

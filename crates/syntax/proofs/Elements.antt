@@ -16,7 +16,7 @@ use Rattle.syntax.specs.Described.{decode, element_at, elements_at}
 use Rattle.syntax.specs.Places.{byte_at, word_at, takes, five_zeros, argument_ok, element_ok, elements_ok}
 use Rattle.model.proofs.FormatEquations.{element-nil, element-other, element-read, element-short, after_none}
 use Rattle.model.proofs.FormatEquations.{after-some, only-fails, eight_read, eight_short}
-use Rattle.model.specs.Format.{Parser, after, ◌>>=◌, give, fail, only, times, byte, eight, number64, signed}
+use Rattle.model.specs.Format.{Parser, after, give, fail, only, times, byte, eight, number64, signed}
 use Rattle.model.specs.Format.{aggregate_is, element_of, element, row_kinds, condition_kinds, output_kinds}
 use Rattle.model.specs.Question.{Element, empty, constant, variable, fixed, aggregate}
 use borrow.Author.Tests.{lt-ltb, le-ltb, eq-eqb, ne_eqb}

@@ -14,7 +14,7 @@
 --   block_within b         the limits of number 6 on one block
 --   walk f bs q           as many blocks as stand from the end of q on, put into q, which keeps the first five
 --   reading bs            the blocks that stand in bs; well_formed bs: EN and nothing else follows them
-use Rattle.std.specs.Prelude.{ℕ, zero, suc, ◌+◌, ◌*◌, ◌-◌, Bool, true, false, ◌&&◌, ◌||◌, not, cond, List, [], ◌∷◌, eqb, ltb, leb, length, get_or, set}
+use Rattle.std.specs.Prelude.{ℕ, zero, suc, ◌+◌, ◌*◌, ◌-◌, Bool, true, ◌&&◌, ◌||◌, not, cond, List, [], ◌∷◌, eqb, ltb, leb, length, get_or, set}
 use Rattle.syntax.specs.declared.Run.{Run}
 use Rattle.syntax.specs.declared.Item.{Item}
 use Rattle.syntax.specs.declared.Head.{Head}

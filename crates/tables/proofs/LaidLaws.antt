@@ -6,7 +6,7 @@
 use Prim.Native.Nat.{ℕ, zero, suc, ◌+◌, ◌*◌, ◌-◌, ◌<◌, ◌≤◌, zero-le}
 use native.Mathlib.Nat.{add-zero, add-suc, add-sub_of_le, suc-mul, mul_comm, mul-le-mul_right}
 use native.Mathlib.Omega.{arith}
-use mathlib.Core.Bool.{Bool, ◌&&◌}
+use mathlib.Core.Bool.{◌&&◌}
 use mathlib.Core.List.{List, [], append-nil}
 use mathlib.Core.Path.{◌≡◌, sym, subst}
 use lib.Dec.{T, leb, eqb, leb→le, eqb→eq}
@@ -14,7 +14,7 @@ use lib.IntN.{ℤ, pos, negsuc}
 use lib.ListN.{length}
 use Rattle.model.specs.Lists.{all, range}
 use Rattle.model.specs.Refusal.{first_of, data_causes}
-use Rattle.model.specs.Tables.{word, nat_of, tables, columns, rows, cells_before, table_at, row_step, column_step, between}
+use Rattle.model.specs.Tables.{word, nat_of, tables, columns, rows, table_at, row_step, column_step, between}
 use Rattle.model.specs.Tables.{laid_out}
 use Rattle.model.proofs.RefusalLaws.{data_passes}
 use Rattle.model.proofs.TableEquations.{tables_is, columns_is, rows_is, cells_before_next, table_at_is, laid_out_is}

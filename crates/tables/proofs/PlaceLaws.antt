@@ -12,9 +12,9 @@ use mathlib.Core.Path.{◌≡◌, refl, sym, ◌∙◌, ap, ap₂}
 use borrow.Author.Tests.{ltb-true, ltb-false}
 use lib.Dec.{ltb}
 use lib.IntN.{ℤ, pos}
-use lib.ListN.{length, get_or, get_or-eq_default}
-use Rattle.model.specs.Tables.{word, nat_of, tables, columns, rows, cells_before, table_at, row_step, column_step, cell}
-use Rattle.model.proofs.TableEquations.{tables_is, columns_is, rows_is, cells_before-first, cells_before_next, table_at_is}
+use lib.ListN.{length, get_or-eq_default}
+use Rattle.model.specs.Tables.{word, tables, columns, rows, table_at, row_step, column_step, cell}
+use Rattle.model.proofs.TableEquations.{cells_before-first, cells_before_next, table_at_is}
 use Rattle.model.proofs.TableEquations.{cell_is, row_step_is, column_step_is}
 use Rattle.tables.specs.Places.{first_cell, place_of, column_of, value_in}
 use Rattle.tables.specs.declared.Column.{Column}

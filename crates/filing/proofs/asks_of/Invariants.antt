@@ -1,13 +1,10 @@
 -- `filing::asks_of` meets its contract. The loop's invariant: the blocks from the k-th on, after those passed, give
 -- the whole. Five blocks are kept, whatever the count.
-use Rattle.std.proofs.Common.{rules}
-use Prim.Native.Nat.{◌+◌, ◌-◌}
-use native.Mathlib.Omega.{arith}
-use mathlib.Core.Path.{◌≡◌, refl, sym, ap, ◌∙◌}
-use lib.ListN.{length-map}
+use Prim.Native.Nat.{◌-◌}
+use mathlib.Core.Path.{◌≡◌}
 use Rattle.limits.specs.Limits.{others_in}
 use Rattle.filing.specs.Asks.{no_asked, ask_all}
-use Rattle.filing.proofs.Walks.{going-blocks, others_from, blocks_start, blocks-turn, blocks-done}
+use Rattle.filing.proofs.Walks.{others_from}
 use Rattle.filing.proofs.asks_of.Given as goal
 
 abbrev pub invariant-loop-k : goal.invariant-loop-k

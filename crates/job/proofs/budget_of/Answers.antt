@@ -1,7 +1,7 @@
 -- The last fourteen bytes are such a part, or not.
 use native.Mathlib.Omega.{arith}
 use mathlib.Core.Path.{◌≡◌}
-use Prim.Native.Nat.{◌-◌, ◌+◌, ◌≤◌}
+use Prim.Native.Nat.{◌-◌}
 use lib.ListN.{length}
 use Rattle.job.proofs.BudgetLaws.{and-eight, budget-taken, budget-left}
 use Rattle.job.proofs.budget_of.Goals as goal

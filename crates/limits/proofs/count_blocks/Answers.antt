@@ -1,7 +1,5 @@
-use Prim.Native.Nat.{◌-◌}
 use native.Mathlib.Omega.{arith}
-use mathlib.Core.Path.{◌≡◌, refl, ap, ◌∙◌}
-use Rattle.limits.specs.Limits.{others_in}
+use mathlib.Core.Path.{refl, ap, ◌∙◌}
 use Rattle.limits.specs.Tally.{no_tally, tally_all}
 use Rattle.limits.proofs.Steps.{others_from, blocks_start, blocks-turn, blocks-done}
 use Rattle.limits.proofs.count_blocks.Goals as goal

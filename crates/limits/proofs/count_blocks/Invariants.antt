@@ -1,11 +1,10 @@
 -- `limits::count_blocks` meets its contract. The loop's invariant: the blocks from the k-th on, counted after those
 -- passed, give the whole.
 use Prim.Native.Nat.{◌-◌}
-use native.Mathlib.Omega.{arith}
-use mathlib.Core.Path.{◌≡◌, refl, ap, ◌∙◌}
+use mathlib.Core.Path.{◌≡◌}
 use Rattle.limits.specs.Limits.{others_in}
 use Rattle.limits.specs.Tally.{no_tally, tally_all}
-use Rattle.limits.proofs.Steps.{others_from, blocks_start, blocks-turn, blocks-done}
+use Rattle.limits.proofs.Steps.{others_from}
 use Rattle.limits.proofs.count_blocks.Given as goal
 
 abbrev pub invariant-loop-k : goal.invariant-loop-k

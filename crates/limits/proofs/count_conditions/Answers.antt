@@ -1,9 +1,6 @@
 use native.Mathlib.Omega.{arith}
-use mathlib.Core.Path.{◌≡◌, refl}
+use mathlib.Core.Path.{refl}
 use lib.ListN.{length}
-use Rattle.model.specs.Lists.{concat_map}
-use Rattle.syntax.specs.Described.{conditions_at}
-use Rattle.limits.specs.Tally.{tally_all, sides}
 use Rattle.limits.proofs.Steps.{going, conditions-turn, conditions-done}
 use Rattle.limits.proofs.count_conditions.Goals as goal
 

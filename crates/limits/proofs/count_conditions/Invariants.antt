@@ -1,12 +1,9 @@
 -- `limits::count_conditions` meets its contract. The loop's invariant: the conditions left, counted after those passed,
 -- give the whole. Where the bytes end the elements left are empty.
-use native.Mathlib.Omega.{arith}
-use mathlib.Core.Path.{◌≡◌, refl}
-use lib.ListN.{length}
+use mathlib.Core.Path.{◌≡◌}
 use Rattle.model.specs.Lists.{concat_map}
 use Rattle.syntax.specs.Described.{conditions_at}
 use Rattle.limits.specs.Tally.{tally_all, sides}
-use Rattle.limits.proofs.Steps.{going, conditions-turn, conditions-done}
 use Rattle.limits.proofs.count_conditions.Given as goal
 
 abbrev pub invariant-loop-more : goal.invariant-loop-more

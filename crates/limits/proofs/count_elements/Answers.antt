@@ -1,8 +1,6 @@
 use native.Mathlib.Omega.{arith}
-use mathlib.Core.Path.{◌≡◌, refl}
+use mathlib.Core.Path.{refl}
 use lib.ListN.{length}
-use Rattle.syntax.specs.Described.{elements_at}
-use Rattle.limits.specs.Tally.{tally_all}
 use Rattle.limits.proofs.Steps.{going, elements_turn, elements_done}
 use Rattle.limits.proofs.count_elements.Goals as goal
 

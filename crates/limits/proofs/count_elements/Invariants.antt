@@ -1,11 +1,8 @@
 -- `limits::count_elements` meets its contract. The loop's invariant: the elements left, counted after those passed,
 -- give the whole. Where the bytes end the elements left are empty.
-use native.Mathlib.Omega.{arith}
-use mathlib.Core.Path.{◌≡◌, refl}
-use lib.ListN.{length}
+use mathlib.Core.Path.{◌≡◌}
 use Rattle.syntax.specs.Described.{elements_at}
 use Rattle.limits.specs.Tally.{tally_all}
-use Rattle.limits.proofs.Steps.{going, elements_turn, elements_done}
 use Rattle.limits.proofs.count_elements.Given as goal
 
 abbrev pub invariant-loop-more : goal.invariant-loop-more

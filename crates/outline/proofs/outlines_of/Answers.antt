@@ -1,6 +1,6 @@
-use Prim.Native.Nat.{◌-◌, ◌<◌}
+use Prim.Native.Nat.{◌<◌}
 use native.Mathlib.Omega.{arith}
-use Rattle.outline.proofs.FillLaws.{Filled, filled-first, filled_next}
+use Rattle.outline.proofs.FillLaws.{filled-first, filled_next}
 use Rattle.outline.proofs.outlines_of.Goals as goal
 
 pub outline_of-first-requires : goal.outline_of-first-requires

@@ -1,8 +1,7 @@
 -- The descriptions below k are in their places.
 -- Assumes nothing.
-use Prim.Native.Nat.{◌-◌, ◌<◌}
-use native.Mathlib.Omega.{arith}
-use Rattle.outline.proofs.FillLaws.{Filled, filled-first, filled_next}
+use Prim.Native.Nat.{◌-◌}
+use Rattle.outline.proofs.FillLaws.{Filled}
 use Rattle.outline.proofs.outlines_of.Given as goal
 
 abbrev pub invariant-loop-k : goal.invariant-loop-k

@@ -1,10 +1,10 @@
 use Rattle.std.proofs.Common.{rules}
-use Prim.Native.Nat.{◌+◌, ◌*◌, ◌-◌, ◌≤◌, ◌<◌}
+use Prim.Native.Nat.{◌+◌, ◌*◌, ◌<◌}
 use native.Mathlib.Numerals.{add-one}
 use native.Mathlib.Omega.{arith}
 use mathlib.Core.Path.{◌≡◌, refl, sym, ap, ◌∙◌}
 use mathlib.Core.List.{◌++◌}
-use lib.ListN.{length, get_or, set, take, drop, length-set, length-map}
+use lib.ListN.{length, get_or, set, take, drop, length-set}
 use lib.Seq.{paste, paste-zero, paste-suc, take_all}
 use Rattle.outline.proofs.PartLaws.{part-there, part_none}
 use Rattle.outline.proofs.put_part.Goals as goal

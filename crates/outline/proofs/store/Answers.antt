@@ -1,9 +1,9 @@
 use Rattle.std.proofs.Common.{rules}
-use Prim.Native.Nat.{◌+◌, ◌-◌}
+use Prim.Native.Nat.{◌+◌}
 use native.Mathlib.Omega.{arith}
 use mathlib.Core.Path.{◌≡◌, refl, sym, ap, subst, ◌∙◌}
-use lib.ListN.{length, get_or, length-map}
-use Rattle.outline.proofs.PartLaws.{inside, Storing, storing-begin, storing-more, storing-end}
+use lib.ListN.{length}
+use Rattle.outline.proofs.PartLaws.{inside, storing-begin, storing-more, storing-end}
 use Rattle.outline.proofs.StoredLaws.{stored_words, stored-enough, stored_short}
 use Rattle.outline.specs.Stored.{no_outline, words_of, Narrow}
 use Rattle.outline.proofs.store.Goals as goal

@@ -1,8 +1,6 @@
-use native.Mathlib.Omega.{arith}
-use mathlib.Core.Path.{subst, sym}
 use Rattle.reader.specs.Causes.{ancestor}
 use Rattle.model.specs.Question.{block_at}
-use Rattle.reader.proofs.MaskLoops.{Climbing, climbing-begin, climbing-more, climbing-end, own_is, parent_is}
+use Rattle.reader.proofs.MaskLoops.{Climbing}
 use Rattle.scope.specs.Masks.{mask_of}
 use Rattle.syntax.specs.Described.{blocks_in}
 use Rattle.reader.proofs.above_of.Given as goal

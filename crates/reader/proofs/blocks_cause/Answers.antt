@@ -1,8 +1,7 @@
-use Prim.Native.Nat.{◌-◌}
 use native.Mathlib.Omega.{arith}
 use mathlib.Core.Path.{◌∙◌, ap}
 use Rattle.reader.specs.Walk.{blocks_cause}
-use Rattle.reader.proofs.BlockLoops.{Walked, walked-begin, walked_more, walked_end}
+use Rattle.reader.proofs.BlockLoops.{walked-begin, walked_more, walked_end}
 use Rattle.reader.proofs.blocks_cause.Goals as goal
 
 pub twice_of-twice-requires : goal.twice_of-twice-requires

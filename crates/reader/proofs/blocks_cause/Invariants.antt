@@ -1,8 +1,5 @@
 use Prim.Native.Nat.{◌-◌}
-use native.Mathlib.Omega.{arith}
-use mathlib.Core.Path.{◌∙◌, ap}
-use Rattle.reader.specs.Walk.{blocks_cause}
-use Rattle.reader.proofs.BlockLoops.{Walked, walked-begin, walked_more, walked_end}
+use Rattle.reader.proofs.BlockLoops.{Walked}
 use Rattle.reader.proofs.blocks_cause.Given as goal
 
 abbrev pub invariant-loop-j : goal.invariant-loop-j

@@ -1,8 +1,7 @@
 use native.Mathlib.Omega.{arith}
 use mathlib.Core.Path.{refl}
 use lib.ListN.{length}
-use Rattle.reader.specs.Walk.{conditions_cause}
-use Rattle.reader.proofs.KindLaws.{Left, going, conditions-stop, conditions-more}
+use Rattle.reader.proofs.KindLaws.{going, conditions-stop, conditions-more}
 use Rattle.reader.proofs.conditions_cause.Goals as goal
 
 pub loop-more-init : goal.loop-more-init

@@ -1,8 +1,5 @@
-use native.Mathlib.Omega.{arith}
-use mathlib.Core.Path.{refl}
-use lib.ListN.{length}
 use Rattle.reader.specs.Walk.{conditions_cause}
-use Rattle.reader.proofs.KindLaws.{Left, going, conditions-stop, conditions-more}
+use Rattle.reader.proofs.KindLaws.{Left}
 use Rattle.reader.proofs.conditions_cause.Given as goal
 
 abbrev pub invariant-loop-more : goal.invariant-loop-more

@@ -1,8 +1,8 @@
 use native.Mathlib.Omega.{arith}
 use mathlib.Core.Path.{ap, refl, ◌∙◌}
 use lib.ListN.{length}
-use Rattle.reader.specs.Walk.{element_cause, elements_cause}
-use Rattle.reader.proofs.KindLaws.{Left, going, elements-stop, elements-more}
+use Rattle.reader.specs.Walk.{element_cause}
+use Rattle.reader.proofs.KindLaws.{going, elements-stop, elements-more}
 use Rattle.reader.proofs.elements_cause.Goals as goal
 
 pub loop-more-init : goal.loop-more-init

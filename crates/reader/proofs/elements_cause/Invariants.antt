@@ -1,8 +1,5 @@
-use native.Mathlib.Omega.{arith}
-use mathlib.Core.Path.{ap, refl, ◌∙◌}
-use lib.ListN.{length}
-use Rattle.reader.specs.Walk.{element_cause, elements_cause}
-use Rattle.reader.proofs.KindLaws.{Left, going, elements-stop, elements-more}
+use Rattle.reader.specs.Walk.{elements_cause}
+use Rattle.reader.proofs.KindLaws.{Left}
 use Rattle.reader.proofs.elements_cause.Given as goal
 
 abbrev pub invariant-loop-more : goal.invariant-loop-more

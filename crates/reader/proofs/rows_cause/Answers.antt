@@ -3,8 +3,7 @@ use native.Mathlib.Nat.{min-le_left, le_trans}
 use native.Mathlib.Omega.{arith}
 use mathlib.Core.Path.{refl, ◌∙◌, ap, subst, sym}
 use lib.ListN.{length}
-use Rattle.reader.specs.Walk.{rows_cause}
-use Rattle.reader.proofs.KindLaws.{Left, going, rows-stop, rows_more}
+use Rattle.reader.proofs.KindLaws.{going, rows-stop, rows_more}
 use Rattle.reader.proofs.rows_cause.Goals as goal
 
 pub loop-more-init : goal.loop-more-init

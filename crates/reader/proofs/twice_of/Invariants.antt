@@ -1,6 +1,5 @@
 use Prim.Native.Nat.{◌-◌}
-use native.Mathlib.Omega.{arith}
-use Rattle.reader.proofs.MaskLoops.{Seen, seen_none, seen_more, seen_all, own_is}
+use Rattle.reader.proofs.MaskLoops.{Seen}
 use Rattle.syntax.specs.Described.{blocks_in}
 use Rattle.reader.proofs.twice_of.Given as goal
 

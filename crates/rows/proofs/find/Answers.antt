@@ -1,6 +1,5 @@
 -- `find` meets its contract: refused, or searched. Assumes nothing.
 use mathlib.Core.Path.{sym, ap₂, ◌∙◌}
-use borrow.Author.Tests.{not-true, not-false}
 use lib.ListN.{length}
 use Rattle.rows.specs.Insertion.{fits_in}
 use Rattle.words.specs.Words.{room_of}

@@ -2,10 +2,8 @@
 -- is in what is known of the parameter: its array has five elements.
 -- Assumes nothing.
 use Rattle.std.proofs.Common.{rules}
-use mathlib.Core.Path.{sym, ◌∙◌}
 use borrow.Author.Tests.{ltb-true}
 use lib.Dec.{ltb}
-use lib.ListN.{length-map}
 use Rattle.syntax.proofs.Laws.{both}
 use Rattle.scope.proofs.BlockLaws.{block-found, block-missing}
 use Rattle.scope.proofs.block_of.Goals as goal

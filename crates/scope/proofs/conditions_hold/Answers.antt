@@ -2,7 +2,7 @@ use native.Mathlib.Omega.{arith}
 use lib.ListN.{length}
 use Rattle.syntax.specs.Places.{condition_end}
 use Rattle.scope.specs.Gathering.{condition_holds, conditions_hold}
-use Rattle.scope.proofs.GatheringLaws.{Gathered, gather_begin, going, records-gathered, conditions-end}
+use Rattle.scope.proofs.GatheringLaws.{gather_begin, going, records-gathered, conditions-end}
 use Rattle.scope.proofs.conditions_hold.Goals as goal
 
 -- nothing is passed

@@ -1,11 +1,8 @@
 -- The mask has what the conditions passed hold, and with the rest that is what all of them hold. Past the end of the
 -- bytes the rest holds nothing, so that the loop may stop there.
 -- Assumes nothing.
-use native.Mathlib.Omega.{arith}
-use lib.ListN.{length}
-use Rattle.syntax.specs.Places.{condition_end}
-use Rattle.scope.specs.Gathering.{condition_holds, conditions_hold}
-use Rattle.scope.proofs.GatheringLaws.{Gathered, gather_begin, going, records-gathered, conditions-end}
+use Rattle.scope.specs.Gathering.{conditions_hold}
+use Rattle.scope.proofs.GatheringLaws.{Gathered}
 use Rattle.scope.proofs.conditions_hold.Given as goal
 
 abbrev pub invariant-loop-more : goal.invariant-loop-more

@@ -1,7 +1,7 @@
 use native.Mathlib.Omega.{arith}
 use lib.ListN.{length}
 use Rattle.scope.specs.Gathering.{elements_hold}
-use Rattle.scope.proofs.GatheringLaws.{Gathered, gather_begin, going, elements-gathered, elements-end}
+use Rattle.scope.proofs.GatheringLaws.{gather_begin, going, elements-gathered, elements-end}
 use Rattle.scope.proofs.elements_hold.Goals as goal
 
 -- nothing is passed

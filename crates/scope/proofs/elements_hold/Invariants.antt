@@ -1,10 +1,8 @@
 -- The mask has what the elements passed hold, and with the rest that is what all of them hold. Past the end of the
 -- bytes the rest holds nothing, so that the loop may stop there.
 -- Assumes nothing.
-use native.Mathlib.Omega.{arith}
-use lib.ListN.{length}
 use Rattle.scope.specs.Gathering.{elements_hold}
-use Rattle.scope.proofs.GatheringLaws.{Gathered, gather_begin, going, elements-gathered, elements-end}
+use Rattle.scope.proofs.GatheringLaws.{Gathered}
 use Rattle.scope.proofs.elements_hold.Given as goal
 
 abbrev pub invariant-loop-more : goal.invariant-loop-more

@@ -1,9 +1,5 @@
-use Prim.Native.Nat.{ℕ, ◌+◌}
 use native.Mathlib.Omega.{arith}
-use mathlib.Core.List.{List}
-use mathlib.Core.Path.{◌≡◌, refl}
-use Rattle.model.specs.Scope.{level_of}
-use Rattle.syntax.specs.Described.{blocks_in}
+use mathlib.Core.Path.{refl}
 use Rattle.scope.proofs.GatheringLaws.{going, stopped}
 use Rattle.scope.proofs.BlockLaws.{level-turn, level-stop}
 use Rattle.scope.proofs.level.Goals as goal

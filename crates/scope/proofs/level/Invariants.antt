@@ -1,13 +1,10 @@
 -- The levels counted, with the levels from the block that is reached, are one more than the block's level.
 -- Assumes nothing.
 use Prim.Native.Nat.{ℕ, ◌+◌}
-use native.Mathlib.Omega.{arith}
 use mathlib.Core.List.{List}
-use mathlib.Core.Path.{◌≡◌, refl}
+use mathlib.Core.Path.{◌≡◌}
 use Rattle.model.specs.Scope.{level_of}
 use Rattle.syntax.specs.Described.{blocks_in}
-use Rattle.scope.proofs.GatheringLaws.{going, stopped}
-use Rattle.scope.proofs.BlockLaws.{level-turn, level-stop}
 use Rattle.scope.proofs.level.Given as goal
 
 abbrev pub invariant-loop-left : goal.invariant-loop-left

@@ -6,7 +6,7 @@ use Rattle.syntax.proofs.Laws.{end_is}
 use Rattle.syntax.specs.Places.{record_end}
 use Rattle.scope.specs.Gathering.{elements_hold, row_holds, rows_hold}
 use Rattle.scope.specs.Masks.{mask_of}
-use Rattle.scope.proofs.GatheringLaws.{Gathered, gather_begin, going, records-gathered, rows_end}
+use Rattle.scope.proofs.GatheringLaws.{gather_begin, going, records-gathered, rows_end}
 use Rattle.scope.proofs.rows_hold.Goals as goal
 
 -- nothing is passed

@@ -2,15 +2,8 @@
 -- rest holds nothing, so that the loop may stop there; before it the end of a row fits, since a row has at most 255
 -- elements.
 -- Assumes nothing.
-use mathlib.Core.Path.{sym, ap, ◌∙◌}
-use native.Mathlib.Omega.{arith}
-use Prim.Native.Nat.{◌+◌, ◌*◌}
-use lib.ListN.{length}
-use Rattle.syntax.proofs.Laws.{end_is}
-use Rattle.syntax.specs.Places.{record_end}
-use Rattle.scope.specs.Gathering.{elements_hold, row_holds, rows_hold}
-use Rattle.scope.specs.Masks.{mask_of}
-use Rattle.scope.proofs.GatheringLaws.{Gathered, gather_begin, going, records-gathered, rows_end}
+use Rattle.scope.specs.Gathering.{rows_hold}
+use Rattle.scope.proofs.GatheringLaws.{Gathered}
 use Rattle.scope.proofs.rows_hold.Given as goal
 
 abbrev pub invariant-loop-more : goal.invariant-loop-more

@@ -1,5 +1,4 @@
 use native.Mathlib.Omega.{arith}
-use mathlib.Core.Logic.{⊎_elim}
 use mathlib.Core.Path.{sym, ◌∙◌}
 use Rattle.syntax.proofs.Laws.{record_in, block_read, block_bare, with_bare, with_some}
 use Rattle.syntax.proofs.block_at.Goals as goal

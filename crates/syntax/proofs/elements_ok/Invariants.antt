@@ -1,10 +1,8 @@
-use Prim.Native.Nat.{◌+◌, ◌*◌, ◌-◌, ◌≤◌}
-use native.Mathlib.Omega.{arith}
+use Prim.Native.Nat.{◌+◌, ◌*◌, ◌≤◌}
 use mathlib.Core.Bool.{◌&&◌}
-use mathlib.Core.Path.{◌≡◌, refl, sym, ap, ◌∙◌}
+use mathlib.Core.Path.{◌≡◌}
 use lib.ListN.{length}
 use Rattle.syntax.specs.Places.{elements_ok}
-use Rattle.syntax.proofs.Laws.{elements_turn, elements_done}
 use Rattle.syntax.proofs.elements_ok.Given as goal
 
 abbrev pub invariant-loop-more : goal.invariant-loop-more

@@ -1,5 +1,5 @@
 use native.Mathlib.Omega.{arith}
-use Rattle.syntax.proofs.Numbers.{Gathered, gathered_start, gathered-fits, gathered-turn, gathered-end}
+use Rattle.syntax.proofs.Numbers.{gathered_start, gathered-fits, gathered-turn, gathered-end}
 use Rattle.syntax.proofs.number_near_end.Goals as goal
 
 pub loop-i-init : goal.loop-i-init

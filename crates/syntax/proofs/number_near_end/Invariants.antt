@@ -1,6 +1,5 @@
 -- From the last byte back to the place, one byte at a turn: at most seven of them. Assumes nothing.
-use native.Mathlib.Omega.{arith}
-use Rattle.syntax.proofs.Numbers.{Gathered, gathered_start, gathered-fits, gathered-turn, gathered-end}
+use Rattle.syntax.proofs.Numbers.{Gathered}
 use Rattle.syntax.proofs.number_near_end.Given as goal
 
 abbrev pub invariant-loop-i : goal.invariant-loop-i

@@ -1,9 +1,7 @@
-use Prim.Native.Nat.{◌-◌}
 use native.Mathlib.Omega.{arith}
 use mathlib.Core.Path.{ap}
-use lib.ListN.{length}
 use Rattle.syntax.specs.declared.Question.{Question}
-use Rattle.syntax.proofs.Laws.{Walked, walked-in, walked-turn, walked_start, walked_done, put_end}
+use Rattle.syntax.proofs.Laws.{walked-in, walked-turn, walked_start, walked_done, put_end}
 use Rattle.syntax.proofs.read_blocks.Goals as goal
 
 pub loop-b-init : goal.loop-b-init

@@ -1,7 +1,6 @@
 -- `inside` meets its contract: absent, or the tests of `inside_of`, one by one. Assumes nothing.
 use Rattle.std.proofs.Common.{rules}
 use mathlib.Core.Path.{sym, ap, ◌∙◌}
-use borrow.Author.Tests.{not-true, not-false}
 use lib.IntN.{pos, nat_abs}
 use lib.Dec.{eqb, leb}
 use lib.Signed.{le_z}

@@ -1,6 +1,5 @@
 -- `order_ratios` meets its contract: the first outside the bounds, the second, neither. Assumes nothing.
 use mathlib.Core.Path.{sym, ◌∙◌, subst}
-use borrow.Author.Tests.{not-true, not-false}
 use lib.Dec.{T}
 use Rattle.value.proofs.Laws.{order-left, order-right, order-inside}
 use Rattle.value.proofs.order_ratios.Goals as goal

@@ -1,6 +1,5 @@
 -- `zero_behind` meets its contract: too few values, or enough. Assumes nothing.
 use Rattle.words.proofs.WordLaws.{behind_zeroed_lem, behind_kept, part_cleared}
-use lib.ListN.{length}
 use native.Mathlib.Omega.{arith}
 use mathlib.Core.Path.{sym, ◌∙◌}
 use Rattle.words.proofs.zero_behind.Goals as goal

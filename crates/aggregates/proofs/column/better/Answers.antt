@@ -1,6 +1,5 @@
 -- `column::better` meets its contract: the second absent, the first, neither. Assumes nothing.
 use mathlib.Core.Path.{sym, ◌∙◌}
-use borrow.Author.Tests.{not-true, not-false}
 use Rattle.aggregates.proofs.ExtremeLoop.{better-first, better-second, better-chosen}
 use Rattle.aggregates.proofs.column.better.Goals as goal
 

@@ -1,10 +1,8 @@
-use Prim.Native.Nat.{◌-◌}
 use native.Mathlib.Omega.{arith}
 use mathlib.Core.Path.{sym, ◌∙◌}
-use borrow.Author.Tests.{not-true, not-false}
 use Rattle.words.proofs.WordLaws.{product-few}
 use Rattle.aggregates.proofs.ColumnLaws.{column_read}
-use Rattle.aggregates.proofs.ExtremeLoop.{Choosing, choosing-begin, choosing-more, choosing-stop, choosing-end}
+use Rattle.aggregates.proofs.ExtremeLoop.{choosing-begin, choosing-more, choosing-stop, choosing-end}
 use Rattle.aggregates.proofs.column.extreme.Goals as goal
 
 pub absent-best-requires : goal.absent-best-requires

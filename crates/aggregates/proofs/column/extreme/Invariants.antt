@@ -1,11 +1,6 @@
 -- `column::extreme` meets its contract: `Choosing` holds before each turn. Assumes nothing.
 use Prim.Native.Nat.{◌-◌}
-use native.Mathlib.Omega.{arith}
-use mathlib.Core.Path.{sym, ◌∙◌}
-use borrow.Author.Tests.{not-true, not-false}
-use Rattle.words.proofs.WordLaws.{product-few}
-use Rattle.aggregates.proofs.ColumnLaws.{column_read}
-use Rattle.aggregates.proofs.ExtremeLoop.{Choosing, choosing-begin, choosing-more, choosing-stop, choosing-end}
+use Rattle.aggregates.proofs.ExtremeLoop.{Choosing}
 use Rattle.aggregates.proofs.column.extreme.Given as goal
 
 abbrev pub invariant-loop-r : goal.invariant-loop-r

@@ -1,9 +1,7 @@
-use Prim.Native.Nat.{◌-◌}
 use native.Mathlib.Omega.{arith}
 use mathlib.Core.Path.{sym, ◌∙◌}
-use borrow.Author.Tests.{not-true, not-false}
 use Rattle.words.proofs.WordLaws.{product-few}
-use Rattle.aggregates.proofs.SumLoop.{Summing, summing-begin, summing-more, summing-stop, summing-end}
+use Rattle.aggregates.proofs.SumLoop.{summing-begin, summing-more, summing-stop, summing-end}
 use Rattle.aggregates.proofs.ColumnLaws.{so, column_read}
 use Rattle.aggregates.proofs.column.sum_column.Goals as goal
 

@@ -1,10 +1,9 @@
 use Rattle.std.proofs.Common.{rules}
-use Prim.Native.Nat.{◌+◌, ◌*◌, ◌-◌, ◌≤◌}
+use Prim.Native.Nat.{◌+◌, ◌*◌}
 use native.Mathlib.Omega.{arith}
-use mathlib.Core.Logic.{⊎_elim}
 use mathlib.Core.Path.{◌≡◌, refl, ap, ◌∙◌}
 use lib.ListN.{length, get_or}
-use Rattle.filing.proofs.Cases.{slots_to, slots_begin, slots_end, slots_past, slots-left, slots-put}
+use Rattle.filing.proofs.Cases.{slots_begin, slots_end, slots_past, slots-left, slots-put}
 use Rattle.filing.proofs.FileLaws.{slots_length}
 use Rattle.filing.proofs.slots.file_slots.Goals as goal
 use Rattle.filing.proofs.slots.file_slots.Goals.{then-function, else-function}

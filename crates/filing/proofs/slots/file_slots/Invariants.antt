@@ -1,13 +1,8 @@
 -- `filing::slots::file_slots` meets its contract. The loop's invariant: the slots before the i-th are filled, and no
 -- other. Past the fifth block there is nothing to fill.
-use Rattle.std.proofs.Common.{rules}
-use Prim.Native.Nat.{◌+◌, ◌*◌, ◌-◌, ◌≤◌}
-use native.Mathlib.Omega.{arith}
-use mathlib.Core.Logic.{⊎_elim}
-use mathlib.Core.Path.{◌≡◌, refl, ap, ◌∙◌}
-use lib.ListN.{length, get_or}
-use Rattle.filing.proofs.Cases.{slots_to, slots_begin, slots_end, slots_past, slots-left, slots-put}
-use Rattle.filing.proofs.FileLaws.{slots_length}
+use Prim.Native.Nat.{◌-◌, ◌≤◌}
+use mathlib.Core.Path.{◌≡◌}
+use Rattle.filing.proofs.Cases.{slots_to}
 use Rattle.filing.proofs.slots.file_slots.Given as goal
 
 abbrev pub invariant-loop-i : goal.invariant-loop-i

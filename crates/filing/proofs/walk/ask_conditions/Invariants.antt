@@ -1,13 +1,9 @@
 -- `filing::walk::ask_conditions` meets its contract. The loop's invariant: the conditions left, after those passed,
 -- give the whole. Where the bytes end the elements left are empty.
-use Prim.Native.Nat.{◌+◌, ◌-◌}
-use native.Mathlib.Omega.{arith}
-use mathlib.Core.Path.{◌≡◌, refl, sym, ap, ◌∙◌}
-use lib.ListN.{length}
+use mathlib.Core.Path.{◌≡◌}
 use Rattle.model.specs.Lists.{concat_map}
-use Rattle.syntax.specs.Described.{element_at, conditions_at}
-use Rattle.filing.specs.Asks.{ask_of, ask_all, sides}
-use Rattle.filing.proofs.Walks.{going, conditions-turn, conditions-done}
+use Rattle.syntax.specs.Described.{conditions_at}
+use Rattle.filing.specs.Asks.{ask_all, sides}
 use Rattle.filing.proofs.walk.ask_conditions.Given as goal
 
 abbrev pub invariant-loop-more : goal.invariant-loop-more

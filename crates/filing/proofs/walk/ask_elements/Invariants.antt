@@ -1,12 +1,8 @@
 -- `filing::walk::ask_elements` meets its contract. The loop's invariant: the elements left, after those passed, give
 -- the whole. Where the bytes end the elements left are empty.
-use Prim.Native.Nat.{◌+◌, ◌-◌}
-use native.Mathlib.Omega.{arith}
-use mathlib.Core.Path.{◌≡◌, refl, sym, ap, ◌∙◌}
-use lib.ListN.{length}
+use mathlib.Core.Path.{◌≡◌}
 use Rattle.syntax.specs.Described.{elements_at}
 use Rattle.filing.specs.Asks.{ask_all}
-use Rattle.filing.proofs.Walks.{going, elements_turn, elements_done}
 use Rattle.filing.proofs.walk.ask_elements.Given as goal
 
 abbrev pub invariant-loop-more : goal.invariant-loop-more

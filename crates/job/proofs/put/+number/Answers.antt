@@ -1,10 +1,8 @@
 -- The first digits, then the last: the number falls by its last digit.
 use native.Mathlib.Omega.{arith}
-use mathlib.Core.Path.{◌∙◌, subst}
-use Prim.Native.Nat.{◌/◌}
+use mathlib.Core.Path.{◌∙◌}
 use Rattle.job.proofs.WroteLaws.{wrote-length, wrote-within}
 use Rattle.job.proofs.DigitLaws.{number-last, number-one}
-use Prim.Native.Nat.{ℕ, ◌<◌}
 use Rattle.job.proofs.put.+number.Goals as goal
 
 pub digit-requires : goal.digit-requires

@@ -1,7 +1,4 @@
-use Prim.Native.Nat.{◌-◌, ◌≤◌}
 use native.Mathlib.Omega.{arith}
-use lib.ListN.{length, take}
-use Rattle.job.specs.Texts.{Wrote}
 use Rattle.job.proofs.WroteLaws.{wrote_none, wrote-length, wrote-within, letters-more, letters-end}
 use Rattle.job.proofs.put.letters.Goals as goal
 

@@ -1,9 +1,7 @@
 -- After i turns the first i letters are put.
 use Prim.Native.Nat.{◌-◌, ◌≤◌}
-use native.Mathlib.Omega.{arith}
 use lib.ListN.{length, take}
 use Rattle.job.specs.Texts.{Wrote}
-use Rattle.job.proofs.WroteLaws.{wrote_none, wrote-length, wrote-within, letters-more, letters-end}
 use Rattle.job.proofs.put.letters.Given as goal
 
 abbrev pub invariant-loop-i : goal.invariant-loop-i

@@ -1,7 +1,5 @@
-use Prim.Native.Nat.{◌-◌, ◌≤◌}
 use native.Mathlib.Omega.{arith}
 use mathlib.Core.Path.{◌≡◌, ◌∙◌}
-use Rattle.job.specs.Texts.{Wrote, fields_text}
 use Rattle.job.proofs.WroteLaws.{wrote_none, wrote-length, wrote-within}
 use Rattle.job.proofs.RowLaws.{line_none, line-more, line-end}
 use Rattle.job.proofs.put.line.Goals as goal

@@ -1,10 +1,6 @@
 -- After j turns the first j fields are put.
 use Prim.Native.Nat.{◌-◌, ◌≤◌}
-use native.Mathlib.Omega.{arith}
-use mathlib.Core.Path.{◌≡◌, ◌∙◌}
 use Rattle.job.specs.Texts.{Wrote, fields_text}
-use Rattle.job.proofs.WroteLaws.{wrote_none, wrote-length, wrote-within}
-use Rattle.job.proofs.RowLaws.{line_none, line-more, line-end}
 use Rattle.job.proofs.put.line.Given as goal
 
 abbrev pub invariant-loop-j : goal.invariant-loop-j

@@ -1,9 +1,6 @@
-use Prim.Native.Nat.{◌*◌, ◌-◌, ◌≤◌}
 use native.Mathlib.Omega.{arith}
-use mathlib.Core.Path.{◌≡◌}
 use borrow.Author.Tests.{ltb-true}
 use lib.Dec.{ltb}
-use Rattle.job.specs.Texts.{Wrote, lines_text}
 use Rattle.job.proofs.PlaceLaws.{and_first}
 use Rattle.job.proofs.WroteLaws.{wrote_none, wrote-length, wrote-within}
 use Rattle.job.proofs.RowLaws.{lines_none, lines_more, lines_end, row_room, next_row}

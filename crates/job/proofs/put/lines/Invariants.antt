@@ -1,13 +1,7 @@
 -- After r turns the first r rows are put, and row r begins at place p.
 use Prim.Native.Nat.{◌*◌, ◌-◌, ◌≤◌}
-use native.Mathlib.Omega.{arith}
 use mathlib.Core.Path.{◌≡◌}
-use borrow.Author.Tests.{ltb-true}
-use lib.Dec.{ltb}
 use Rattle.job.specs.Texts.{Wrote, lines_text}
-use Rattle.job.proofs.PlaceLaws.{and_first}
-use Rattle.job.proofs.WroteLaws.{wrote_none, wrote-length, wrote-within}
-use Rattle.job.proofs.RowLaws.{lines_none, lines_more, lines_end, row_room, next_row}
 use Rattle.job.proofs.put.lines.Given as goal
 
 abbrev pub invariant-loop-r : goal.invariant-loop-r

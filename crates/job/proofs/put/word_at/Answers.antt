@@ -1,5 +1,4 @@
 -- A word past the end is the default of `get_or`.
-use Prim.Native.Nat.{◌-◌}
 use mathlib.Core.Path.{sym}
 use lib.IntN.{pos}
 use lib.ListN.{get_or-eq_default}

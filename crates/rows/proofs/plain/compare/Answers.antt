@@ -1,10 +1,8 @@
-use Prim.Native.Nat.{◌-◌, ◌≤◌}
 use native.Mathlib.Omega.{arith}
 use mathlib.Core.Path.{sym, ap₂, ◌∙◌, subst}
-use borrow.Author.Tests.{not-true, not-false}
 use Rattle.value.specs.Exact.{order_of}
 use Rattle.rows.specs.Plain.{Plain, Decides}
-use Rattle.rows.proofs.CompareLoop.{Alike, alike_begin}
+use Rattle.rows.proofs.CompareLoop.{alike_begin}
 use Rattle.rows.proofs.PlainLaws.{columns-more, columns-stop, columns-end}
 use Rattle.rows.proofs.plain.compare.Goals as goal
 

@@ -1,8 +1,6 @@
-use Prim.Native.Nat.{◌-◌, ◌≤◌}
 use native.Mathlib.Omega.{arith}
 use mathlib.Core.Path.{subst}
-use borrow.Author.Tests.{not-false}
-use Rattle.rows.specs.Plain.{Plain, PlainTo}
+use Rattle.rows.specs.Plain.{Plain}
 use Rattle.rows.proofs.PlainLaws.{plain-none, plain_more}
 use Rattle.rows.proofs.plain.leading.Goals as goal
 

@@ -1,10 +1,6 @@
 -- `plain::leading` meets its contract: the columns before c are plain. Assumes nothing.
 use Prim.Native.Nat.{◌-◌, ◌≤◌}
-use native.Mathlib.Omega.{arith}
-use mathlib.Core.Path.{subst}
-use borrow.Author.Tests.{not-false}
-use Rattle.rows.specs.Plain.{Plain, PlainTo}
-use Rattle.rows.proofs.PlainLaws.{plain-none, plain_more}
+use Rattle.rows.specs.Plain.{PlainTo}
 use Rattle.rows.proofs.plain.leading.Given as goal
 
 abbrev pub invariant-loop-c : goal.invariant-loop-c

@@ -7,7 +7,6 @@ use lib.Signed.{lt_z}
 use mir.Facts.{to_z-of_z}
 use mir.Syntax.{w64}
 use mir.Val.{of_z}
-use borrow.Author.Tests.{not-false}
 use Rattle.rows.proofs.PlainLaws.{decides_none, bits_one, same_bits, plain-equal, plain-less, plain-greater}
 use Rattle.rows.proofs.plain.order.Goals as goal
 

@@ -1,9 +1,7 @@
-use Prim.Native.Nat.{◌-◌}
 use native.Mathlib.Omega.{arith}
 use mathlib.Core.Path.{sym, ap₂, ◌∙◌}
-use borrow.Author.Tests.{not-true, not-false}
 use Rattle.value.specs.Exact.{order_of}
-use Rattle.rows.proofs.CompareLoop.{Alike, alike_begin, alike-more, alike-stop, alike_end}
+use Rattle.rows.proofs.CompareLoop.{alike_begin, alike-more, alike-stop, alike_end}
 use Rattle.rows.proofs.search.compare_row.Goals as goal
 
 pub loop-c-init : goal.loop-c-init

@@ -1,10 +1,6 @@
 -- `search::compare_row` meets its contract: the columns before c are equal. Assumes nothing.
 use Prim.Native.Nat.{◌-◌}
-use native.Mathlib.Omega.{arith}
-use mathlib.Core.Path.{sym, ap₂, ◌∙◌}
-use borrow.Author.Tests.{not-true, not-false}
-use Rattle.value.specs.Exact.{order_of}
-use Rattle.rows.proofs.CompareLoop.{Alike, alike_begin, alike-more, alike-stop, alike_end}
+use Rattle.rows.proofs.CompareLoop.{Alike}
 use Rattle.rows.proofs.search.compare_row.Given as goal
 
 abbrev pub invariant-loop-c : goal.invariant-loop-c

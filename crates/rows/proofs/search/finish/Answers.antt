@@ -2,11 +2,11 @@ use Prim.Native.Nat.{◌-◌, ◌<◌}
 use native.Mathlib.Omega.{arith}
 use mathlib.Core.Path.{sym, ◌∙◌}
 use lib.ListN.{length}
-use Rattle.rows.specs.Insertion.{at_place, middle, bisect}
+use Rattle.rows.specs.Insertion.{at_place, middle}
 use Rattle.words.specs.Words.{room_of}
 use Rattle.words.proofs.WordLaws.{product-few}
 use Rattle.rows.proofs.CaseLaws.{place-fits}
-use Rattle.rows.proofs.SearchLoop.{Between, between-begin, between-there, between-outside, between_more}
+use Rattle.rows.proofs.SearchLoop.{between-begin, between-there, between-outside, between_more}
 use Rattle.rows.proofs.SearchLoop.{between-end, narrower, middle_below}
 use Rattle.rows.proofs.search.finish.Goals as goal
 

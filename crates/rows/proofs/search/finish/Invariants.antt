@@ -1,14 +1,7 @@
 -- `search::finish` meets its contract: `Between` holds before each turn; hi - lo falls. Assumes nothing.
-use Prim.Native.Nat.{◌-◌, ◌<◌}
-use native.Mathlib.Omega.{arith}
-use mathlib.Core.Path.{sym, ◌∙◌}
-use lib.ListN.{length}
-use Rattle.rows.specs.Insertion.{at_place, middle, bisect}
-use Rattle.words.specs.Words.{room_of}
-use Rattle.words.proofs.WordLaws.{product-few}
-use Rattle.rows.proofs.CaseLaws.{place-fits}
-use Rattle.rows.proofs.SearchLoop.{Between, between-begin, between-there, between-outside, between_more}
-use Rattle.rows.proofs.SearchLoop.{between-end, narrower, middle_below}
+use Prim.Native.Nat.{◌-◌}
+use Rattle.rows.specs.Insertion.{at_place, bisect}
+use Rattle.rows.proofs.SearchLoop.{Between}
 use Rattle.rows.proofs.search.finish.Given as goal
 
 abbrev pub invariant-loop-lo : goal.invariant-loop-lo

@@ -1,12 +1,12 @@
-use Prim.Native.Nat.{◌-◌, ◌<◌}
+use Prim.Native.Nat.{◌<◌}
 use native.Mathlib.Omega.{arith}
 use mathlib.Core.Path.{sym, ◌∙◌}
 use lib.ListN.{length}
-use Rattle.rows.specs.Insertion.{at_place, middle, bisect}
+use Rattle.rows.specs.Insertion.{at_place, middle}
 use Rattle.words.specs.Words.{room_of}
 use Rattle.words.proofs.WordLaws.{product-few}
 use Rattle.rows.proofs.CaseLaws.{place-fits}
-use Rattle.rows.proofs.SearchLoop.{Between, between-begin, narrower, middle_below}
+use Rattle.rows.proofs.SearchLoop.{between-begin, narrower, middle_below}
 use Rattle.rows.proofs.WalkLoop.{walk-found, walk_more, walk-left}
 use Rattle.rows.proofs.search.walk.Goals as goal
 

@@ -1,12 +1,9 @@
 -- `moves::clear` meets its contract: after i turns the first i words are zero. Assumes nothing.
-use Prim.Native.Nat.{◌≤◌, ◌-◌, ◌<◌}
-use native.Mathlib.Numerals.{add-one}
-use native.Mathlib.Omega.{arith}
-use mathlib.Core.List.{List, ◌++◌}
-use mathlib.Core.Path.{◌≡◌, refl, ap, ◌∙◌}
-use lib.IntN.{ℤ, pos}
-use lib.ListN.{length, set, drop, replicate, length-set}
-use Rattle.words.proofs.WordLaws.{fill_suc}
+use Prim.Native.Nat.{◌≤◌, ◌-◌}
+use mathlib.Core.List.{◌++◌}
+use mathlib.Core.Path.{◌≡◌}
+use lib.IntN.{pos}
+use lib.ListN.{length, drop, replicate}
 use Rattle.words.proofs.moves.clear.Given as goal
 
 abbrev pub invariant-loop-i : goal.invariant-loop-i

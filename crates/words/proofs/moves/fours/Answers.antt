@@ -1,7 +1,6 @@
-use Prim.Native.Nat.{◌+◌, ◌-◌, ◌≤◌}
+use Prim.Native.Nat.{◌+◌, ◌-◌}
 use native.Mathlib.Omega.{arith}
 use mathlib.Core.Path.{◌≡◌, refl, ap, ◌∙◌}
-use lib.ListN.{length}
 use Rattle.words.specs.Words.{words_of, shifted}
 use Rattle.words.proofs.ShiftLoop.{shifted_none, shifted_join}
 use Rattle.words.proofs.moves.fours.Goals as goal

@@ -1,10 +1,8 @@
 -- `moves::fours` meets its contract: after each turn the values from place j on are moved up. Assumes nothing.
-use Prim.Native.Nat.{◌+◌, ◌-◌, ◌≤◌}
-use native.Mathlib.Omega.{arith}
-use mathlib.Core.Path.{◌≡◌, refl, ap, ◌∙◌}
+use Prim.Native.Nat.{◌≤◌}
+use mathlib.Core.Path.{◌≡◌}
 use lib.ListN.{length}
 use Rattle.words.specs.Words.{words_of, shifted}
-use Rattle.words.proofs.ShiftLoop.{shifted_none, shifted_join}
 use Rattle.words.proofs.moves.fours.Given as goal
 
 abbrev pub invariant-loop-j : goal.invariant-loop-j

@@ -1,11 +1,9 @@
 -- `moves::put_values` meets its contract: after j turns the first j values are in place. Assumes nothing.
-use Prim.Native.Nat.{◌+◌, ◌-◌, ◌≤◌}
-use native.Mathlib.Omega.{arith}
-use mathlib.Core.Path.{◌≡◌, refl, ap₂, ◌∙◌}
+use Prim.Native.Nat.{◌-◌, ◌≤◌}
+use mathlib.Core.Path.{◌≡◌}
 use lib.ListN.{length}
-use lib.Seq.{paste, paste-zero}
-use Rattle.words.specs.Words.{words_of, with_value}
-use Rattle.words.proofs.WordLaws.{paste_value}
+use lib.Seq.{paste}
+use Rattle.words.specs.Words.{words_of}
 use Rattle.words.proofs.moves.put_values.Given as goal
 
 abbrev pub invariant-loop-j : goal.invariant-loop-j

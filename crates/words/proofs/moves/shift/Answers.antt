@@ -2,7 +2,7 @@ use Prim.Native.Nat.{◌+◌, ◌-◌}
 use native.Mathlib.Omega.{arith}
 use mathlib.Core.Path.{ap, ◌∙◌}
 use Rattle.words.specs.Words.{words_of, with_value, shifted}
-use Rattle.words.proofs.ShiftLoop.{Moved, moved_begin, moved_value, moved-end, shifted_join}
+use Rattle.words.proofs.ShiftLoop.{moved_begin, moved_value, moved-end, shifted_join}
 use Rattle.words.proofs.moves.shift.Goals as goal
 
 pub fours-j-requires : goal.fours-j-requires

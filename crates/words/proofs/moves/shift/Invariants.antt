@@ -1,10 +1,7 @@
 -- `moves::shift` meets its contract: after each turn the values from place j to where the fours ended are moved up, and
 -- the fours before them. Assumes nothing.
-use Prim.Native.Nat.{◌+◌, ◌-◌}
-use native.Mathlib.Omega.{arith}
-use mathlib.Core.Path.{ap, ◌∙◌}
-use Rattle.words.specs.Words.{words_of, with_value, shifted}
-use Rattle.words.proofs.ShiftLoop.{Moved, moved_begin, moved_value, moved-end, shifted_join}
+use Rattle.words.specs.Words.{words_of}
+use Rattle.words.proofs.ShiftLoop.{Moved}
 use Rattle.words.proofs.moves.shift.Given as goal
 
 abbrev pub invariant-loop-j : goal.invariant-loop-j
