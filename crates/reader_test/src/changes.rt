@@ -30,7 +30,8 @@ fn number(s: &[u8]) -> u8
     requires { 102 ≡ length s.now }
 {
     let words = data();
-    judge::number(&words, &s[..94], &s[94..])
+    let (question, plan) = s.split_at(94);
+    judge::number(&words, question, plan)
 }
 
 // The number of J with this byte at a place of the question or, behind it, of the plan.
