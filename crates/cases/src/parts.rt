@@ -1,5 +1,5 @@
 // The parts of a job on standard input, each a two-byte mark, a 4-byte little-endian length and that many bytes.
-ghost use Rattle.std.specs.Prelude.{◌+◌, ◌<◌, ◌≤◌, ◌≡◌, ◌×◌, length};
+ghost use Rattle.std.specs.Prelude.{◌+◌, ◌<◌, ◌≤◌, ◌≡◌, length};
 
 use std::alloc::Global;
 use std::io;

@@ -1,5 +1,5 @@
 // One job run: buffers of the lengths asked for are lent, and every word of them is looked at afterwards.
-ghost use Rattle.std.specs.Prelude.{◌≤◌, ◌≡◌, length};
+ghost use Rattle.std.specs.Prelude.{◌≤◌};
 
 use crate::{lent, parts, print};
 use std::alloc::Global;
@@ -16,9 +16,7 @@ struct Lent {
 }
 
 // What part BU asks for.
-fn asked(rest: &[u8]) -> Lent
-    requires { 24 ≡ length rest.now }
-{
+fn asked(rest: &[u8; 24]) -> Lent {
     Lent {
         budget: (parts::four(rest, 0) as u64) + 4294967296 * (parts::four(rest, 4) as u64),
         result: parts::four(rest, 8) as usize,
@@ -142,10 +140,8 @@ pub(crate) fn job(
     words: &[i32],
     question: &[u8],
     plan: &[u8],
-    rest: &[u8],
-) -> io::Result<()>
-    requires { 24 ≡ length rest.now }
-{
+    rest: &[u8; 24],
+) -> io::Result<()> {
     let mut sets = vec![in alloc; 0; 8200]?;
     let mut files = vec![in alloc; 0; 8200]?;
     let mut indexes = vec![in alloc; 0; 1288]?;

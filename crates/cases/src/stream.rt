@@ -25,9 +25,9 @@ fn with_plan(
     let Part::Contents(rest) = parts::contents(alloc, stream, *b"BU", 24)? else {
         return Ok(Outcome::Malformed);
     };
-    if rest.len() != 24 {
+    let Ok(rest) = <[u8; 24]>::try_from(rest.as_slice()) else {
         return Ok(Outcome::Malformed);
-    }
+    };
     run::job(rt, alloc, words, question, plan, &rest)?;
     Ok(Outcome::Answered)
 }

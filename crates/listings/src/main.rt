@@ -4,7 +4,7 @@
 // computes the same text by the evaluator, apart from this code.
 #![tactic(auto)]
 
-ghost use Rattle.std.specs.Prelude.{◌<◌, ◌≤◌, ◌≡◌, ◌+◌, length};
+ghost use Rattle.std.specs.Prelude.{◌<◌, ◌≤◌, ◌≡◌, length};
 
 use std::alloc::Global;
 use std::io;
@@ -32,16 +32,13 @@ enum Outcome {
 
 // A byte as a larger number.
 fn wide(x: u8) -> u32
-    ensures same { result ≡ x }
-    ensures small { result < 256 }
+    ensures { (result ≡ x) × (result < 256) }
 {
     x as u32
 }
 
 // The four bytes of a length.
-fn length_of(h: &[u8]) -> u32
-    requires { 6 ≤ length h.now }
-{
+fn length_of(h: &[u8; 6]) -> u32 {
     wide(h[2]) + 256 * wide(h[3]) + 65536 * wide(h[4]) + 16777216 * wide(h[5])
 }
 
@@ -58,9 +55,9 @@ fn next_head(alloc: Global, stream: &mut impl Read) -> io::Result<Head> {
     if h.is_empty() {
         return Ok(Head::Ended);
     }
-    if h.len() != 6 {
+    let Ok(h) = <[u8; 6]>::try_from(h.as_slice()) else {
         return Ok(Head::Malformed);
-    }
+    };
     let lists = h[0] == b'L' && h[1] == b'I';
     let budgeted = h[0] == b'B' && h[1] == b'J';
     if !(lists || budgeted) {
