@@ -248,8 +248,8 @@ fn fill(rt: &impl Print, words: &mut [i64]) -> io::Result<usize>
     ensures { IfOk result (λ n. n ≤ 600) }
 {
     let mut s = Seed { x: 1 };
-    let mut count: usize = 0;
-    for _ in 0..600 {
+    let mut count = 0;
+    for _ in 0..600usize {
         s = next(s);
         count += insert_drawn(rt, words, count, s)?;
     }
