@@ -3,11 +3,6 @@ use std::alloc::Global;
 use std::io;
 use std::io::Write;
 
-// A number, and the end of its line.
-pub(crate) fn line(rt: &impl Print, n: u64) -> io::Result<()> {
-    println!(rt; "{n}")
-}
-
 // The four figures of an answer.
 fn figures(rt: &impl Print, a: model::Answer) -> io::Result<()> {
     println!(rt; "{} {} {} {}", a.number, a.rows, a.columns, a.trials)
