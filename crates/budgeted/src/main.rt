@@ -3,11 +3,13 @@
 // bytes after the budget.
 #![tactic(auto)]
 
-fn main() {
-    let mut bytes: [u8; 196641] = [0; 196641];
-    let n = io::read_full(0, &mut bytes);
-    let mut text = io::large_buffer();
-    let k = reply::reply_budgeted(&bytes[..n], &mut text);
-    let m = io::count(k as isize, &text);
-    io::write_all(1, &text[..m]);
+use std::io;
+use std::io::{Read, Write};
+
+fn main(rt: HostRuntime) -> io::Result<()> {
+    let mut bytes = Vec::new(rt.alloc());
+    rt.reader().take(196641).read_to_end(&mut bytes)?;
+    let mut text = vec![in rt.alloc(); 0; 65536]?;
+    let length = reply::reply_budgeted(&bytes, &mut text);
+    io::writer(&rt).write_all(&text[..length])
 }

@@ -10,21 +10,15 @@ fn known(i: usize) -> u16
 
 // Every word as it is before a run.
 pub(crate) fn fill(words: &mut [i64]) {
-    let n = words.len();
-    let mut i: usize = 0;
-    while i < n {
-        words[i] = wide(known(i));
-        i += 1;
+    for (i, word) in words.iter_mut().enumerate() {
+        *word = wide(known(i));
     }
 }
 
 // The same of 16-bit words.
 pub(crate) fn fill_indexes(words: &mut [u16]) {
-    let n = words.len();
-    let mut i: usize = 0;
-    while i < n {
-        words[i] = known(i);
-        i += 1;
+    for (i, word) in words.iter_mut().enumerate() {
+        *word = known(i);
     }
 }
 
@@ -44,10 +38,8 @@ fn is_left(word: i64, i: usize, place: usize) -> bool {
 // Whether all words before a place are 0, and all others as they were.
 pub(crate) fn zeroed(words: &[i64], place: usize) -> bool {
     let mut good = true;
-    let mut i: usize = 0;
-    while i < words.len() {
-        good = good & is_left(words[i], i, place);
-        i += 1;
+    for (i, word) in words.iter().enumerate() {
+        good &= is_left(*word, i, place);
     }
     good
 }
@@ -55,10 +47,8 @@ pub(crate) fn zeroed(words: &[i64], place: usize) -> bool {
 // The same of 16-bit words.
 pub(crate) fn zeroed_indexes(words: &[u16], place: usize) -> bool {
     let mut good = true;
-    let mut i: usize = 0;
-    while i < words.len() {
-        good = good & is_left(wide(words[i]), i, place);
-        i += 1;
+    for (i, word) in words.iter().enumerate() {
+        good &= is_left(wide(*word), i, place);
     }
     good
 }
@@ -66,10 +56,8 @@ pub(crate) fn zeroed_indexes(words: &[u16], place: usize) -> bool {
 // Whether all words from a place on are as they were.
 pub(crate) fn kept(words: &[i64], place: usize) -> bool {
     let mut good = true;
-    let mut i = place;
-    while i < words.len() {
-        good = good & (words[i] == wide(known(i)));
-        i += 1;
+    for i in place..words.len() {
+        good &= words[i] == wide(known(i));
     }
     good
 }

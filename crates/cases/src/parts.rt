@@ -1,11 +1,26 @@
 // The parts of a job on standard input, each a two-byte mark, a 4-byte little-endian length and that many bytes.
 ghost use Rattle.std.specs.Prelude.{◌+◌, ◌<◌, ◌≤◌, ◌≡◌, length};
 
-// What became of a part: 0 read, 1 the stream had ended, 2 malformed; and its length, 0 where it is not read.
-#[derive(Clone, Copy)]
-pub(crate) struct Part {
-    pub state: u8,
-    pub length: u32,
+use std::alloc::Global;
+use std::io;
+use std::io::Read;
+
+// What became of a part's head.
+enum Header {
+    // The length of the part.
+    Length(u32),
+    // The stream had ended.
+    Ended,
+    Malformed,
+}
+
+// What became of a part.
+#[derive(Drop)]
+pub(crate) enum Part {
+    Contents(Vec<u8>),
+    // The stream had ended.
+    Ended,
+    Malformed,
 }
 
 // A byte as a larger number.
@@ -23,52 +38,44 @@ pub(crate) fn four(s: &[u8], at: usize) -> u32
     wide(s[at]) + 256 * wide(s[at + 1]) + 65536 * wide(s[at + 2]) + 16777216 * wide(s[at + 3])
 }
 
+// The next bytes of the stream, so many, or all that are left where they are fewer.
+fn next_bytes(alloc: Global, stream: &mut impl Read, length: u32) -> io::Result<Vec<u8>> {
+    let mut bytes = Vec::new(alloc);
+    stream.take(length as u64).read_to_end(&mut bytes)?;
+    Ok(bytes)
+}
+
 // The head of a part that is to have this mark.
-fn head(first: u8, second: u8) -> Part {
-    let mut h: [u8; 6] = [0; 6];
-    let n = io::read_full(0, &mut h);
-    if n == 0 {
-        return Part {
-            state: 1,
-            length: 0,
-        };
+fn head(alloc: Global, stream: &mut impl Read, mark: [u8; 2]) -> io::Result<Header> {
+    let h = next_bytes(alloc, stream, 6)?;
+    if h.is_empty() {
+        return Ok(Header::Ended);
     }
-    if (n != 6) | (h[0] != first) | (h[1] != second) {
-        return Part {
-            state: 2,
-            length: 0,
-        };
+    if h.len() != 6 || h[0] != mark[0] || h[1] != mark[1] {
+        return Ok(Header::Malformed);
     }
-    Part {
-        state: 0,
-        length: four(&h, 2),
-    }
+    Ok(Header::Length(four(&h, 2)))
 }
 
-// The state of a part that is not read: that of its head, and 2 where the head was.
-fn failed(state: u8) -> u8 {
-    if state == 0 {
-        return 2;
+// The contents of a part that is to have this mark, and at most so many bytes.
+pub(crate) fn contents(
+    alloc: Global,
+    stream: &mut impl Read,
+    mark: [u8; 2],
+    most: u32,
+) -> io::Result<Part> {
+    match head(alloc, stream, mark)? {
+        Header::Ended => Ok(Part::Ended),
+        Header::Malformed => Ok(Part::Malformed),
+        Header::Length(length) => {
+            if length > most {
+                return Ok(Part::Malformed);
+            }
+            let bytes = next_bytes(alloc, stream, length)?;
+            if bytes.len() != length as usize {
+                return Ok(Part::Malformed);
+            }
+            Ok(Part::Contents(bytes))
+        }
     }
-    state
-}
-
-// The contents of a part that is to have this mark, put at the start of a buffer that is to hold them.
-pub(crate) fn contents(first: u8, second: u8, to: &mut [u8]) -> Part {
-    let h = head(first, second);
-    let wanted = h.length as isize;
-    let n = io::count(wanted, to);
-    if (h.state != 0) | (n != (h.length as usize)) {
-        return Part {
-            state: failed(h.state),
-            length: 0,
-        };
-    }
-    if io::read_full(0, &mut to[..n]) != n {
-        return Part {
-            state: 2,
-            length: 0,
-        };
-    }
-    h
 }

@@ -1,52 +1,42 @@
 // Lines of text.
-
-// Text as it is.
-pub(crate) fn say(s: &[u8]) {
-    io::write_all(1, s);
-}
-
-// A number, and a byte after it.
-fn figure(n: u64, end: &[u8]) {
-    io::print_decimal(1, n);
-    say(end);
-}
-
-// A number, and the end of its line.
-pub(crate) fn line(n: u64) {
-    figure(n, b"\n");
-}
+use std::alloc::Global;
+use std::io;
+use std::io::Write;
 
 // The four figures of an answer.
-fn figures(a: model::Answer) {
-    figure(a.number as u64, b" ");
-    figure(a.rows as u64, b" ");
-    figure(a.columns as u64, b" ");
-    line(a.trials);
+fn figures(rt: &impl Print, a: model::Answer) -> io::Result<()> {
+    println!(rt; "{} {} {} {}", a.number, a.rows, a.columns, a.trials)
 }
 
 // The first n bytes, a listing's text, with 0 for its "ok".
-fn with_zero(out: &mut [u8], n: usize) {
+fn with_zero(rt: &impl Print, out: &mut [u8], n: usize) -> io::Result<()> {
     if n > out.len() {
-        return;
+        return Ok(());
     }
     if n > 1 {
         out[1] = b'0';
-        say(&out[1..n]);
+        io::writer(rt).write_all(&out[1..n])?;
     }
+    Ok(())
 }
 
 // The figures and the rows of an accepted answer.
-fn accepted(a: model::Answer, words: &[i64]) {
-    let mut out = io::large_buffer();
+fn accepted(rt: &impl Print, alloc: Global, a: model::Answer, words: &[i64]) -> io::Result<()> {
+    let mut out = vec![in alloc; 0; 65536]?;
     let n = job::print_answer(a, words, &mut out);
-    with_zero(&mut out, n);
+    with_zero(rt, &mut out, n)
 }
 
 // The figures of an answer, and its rows from the result's words.
-pub(crate) fn answer(a: model::Answer, words: &[i64]) {
+pub(crate) fn answer(
+    rt: &impl Print,
+    alloc: Global,
+    a: model::Answer,
+    words: &[i64],
+) -> io::Result<()> {
     if a.number == 0 {
-        accepted(a, words);
+        accepted(rt, alloc, a, words)
     } else {
-        figures(a);
+        figures(rt, a)
     }
 }

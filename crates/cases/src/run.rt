@@ -2,6 +2,8 @@
 ghost use Rattle.std.specs.Prelude.{◌≤◌};
 
 use crate::{lent, parts, print};
+use std::alloc::Global;
+use std::io;
 
 // The budget, and how many words of each buffer are lent.
 #[derive(Clone, Copy)]
@@ -80,7 +82,7 @@ fn lend(
     )
 }
 
-// Whether every buffer is as the paper has it after an answer.
+// Whether every buffer is as the engine's contract has it after an answer.
 fn is_right(a: model::Answer, sets: &[i64], files: &[i64], indexes: &[u16], res: &[i64]) -> bool {
     lent::zeroed(sets, zeros(a.number, 8192))
         & lent::zeroed(files, zeros(a.number, 8192))
@@ -89,11 +91,20 @@ fn is_right(a: model::Answer, sets: &[i64], files: &[i64], indexes: &[u16], res:
 }
 
 // The answer, and a line where a buffer is not right.
-fn tell(a: model::Answer, sets: &[i64], files: &[i64], indexes: &[u16], res: &[i64]) {
-    print::answer(a, res);
+fn tell(
+    rt: &impl Print,
+    alloc: Global,
+    a: model::Answer,
+    sets: &[i64],
+    files: &[i64],
+    indexes: &[u16],
+    res: &[i64],
+) -> io::Result<()> {
+    print::answer(rt, alloc, a, res)?;
     if !is_right(a, sets, files, indexes, res) {
-        print::say(b"changed\n");
+        println!(rt; "changed")?;
     }
+    Ok(())
 }
 
 // Every buffer as it is before a run.
@@ -106,6 +117,8 @@ fn fill(sets: &mut [i64], files: &mut [i64], indexes: &mut [u16], res: &mut [i64
 
 // A run with these buffers, and what is told of it.
 fn with_buffers(
+    rt: &impl Print,
+    alloc: Global,
     words: &[i32],
     question: &[u8],
     plan: &[u8],
@@ -114,19 +127,28 @@ fn with_buffers(
     files: &mut [i64],
     indexes: &mut [u16],
     res: &mut [i64],
-) {
+) -> io::Result<()> {
     fill(sets, files, indexes, res);
     let a = lend(words, question, plan, l, sets, files, indexes, res);
-    tell(a, sets, files, indexes, res);
+    tell(rt, alloc, a, sets, files, indexes, res)
 }
 
-// A job with the contents of its part BU. Buffers longer than the arrays here are cut.
-pub(crate) fn job(words: &[i32], question: &[u8], plan: &[u8], rest: &[u8; 24]) {
-    let mut sets: [i64; 8200] = [0; 8200];
-    let mut files: [i64; 8200] = [0; 8200];
-    let mut indexes: [u16; 1288] = [0; 1288];
-    let mut result: [i64; 2056] = [0; 2056];
+// A job with the contents of its part BU. Buffers longer than those here are cut.
+pub(crate) fn job(
+    rt: &impl Print,
+    alloc: Global,
+    words: &[i32],
+    question: &[u8],
+    plan: &[u8],
+    rest: &[u8; 24],
+) -> io::Result<()> {
+    let mut sets = vec![in alloc; 0; 8200]?;
+    let mut files = vec![in alloc; 0; 8200]?;
+    let mut indexes = vec![in alloc; 0; 1288]?;
+    let mut result = vec![in alloc; 0; 2056]?;
     with_buffers(
+        rt,
+        alloc,
         words,
         question,
         plan,
@@ -135,5 +157,5 @@ pub(crate) fn job(words: &[i32], question: &[u8], plan: &[u8], rest: &[u8; 24]) 
         &mut files,
         &mut indexes,
         &mut result,
-    );
+    )
 }

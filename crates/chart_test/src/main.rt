@@ -3,58 +3,49 @@
 #![tactic(auto)]
 
 use chart::Relation;
-
-// Text as it is.
-fn say(s: &[u8]) {
-    io::write_all(1, s);
-}
+use std::io;
 
 // An operator as the notation writes it, by its number.
-fn operator(op: u8) {
+fn operator(op: u8) -> &'static str {
     match op {
-        0 => say(b"="),
-        1 => say(b"!="),
-        2 => say(b"<"),
-        3 => say(b"<="),
-        4 => say(b">"),
-        _ => say(b">="),
+        0 => "=",
+        1 => "!=",
+        2 => "<",
+        3 => "<=",
+        4 => ">",
+        _ => ">=",
     }
 }
 
 // A relation.
-fn relation(r: Relation) {
+fn relation(r: Relation) -> &'static str {
     match r {
-        Relation::Less => say(b" less "),
-        Relation::Equal => say(b" equal "),
-        Relation::Greater => say(b" greater "),
-        Relation::Absent => say(b" absent "),
+        Relation::Less => "less",
+        Relation::Equal => "equal",
+        Relation::Greater => "greater",
+        Relation::Absent => "absent",
     }
 }
 
 // The chart's answer to an operator and a relation.
-fn line(op: u8, r: Relation) {
-    operator(op);
-    relation(r);
-    if chart::meets(op, r) {
-        say(b"yes\n");
-    } else {
-        say(b"no\n");
-    }
+fn line(rt: &impl Print, op: u8, r: Relation) -> io::Result<()> {
+    let answer = if chart::meets(op, r) { "yes" } else { "no" };
+    println!(rt; "{} {} {answer}", operator(op), relation(r))
 }
 
 // An operator against all four.
-fn four(op: u8) {
-    line(op, Relation::Less);
-    line(op, Relation::Equal);
-    line(op, Relation::Greater);
-    line(op, Relation::Absent);
+fn four(rt: &impl Print, op: u8) -> io::Result<()> {
+    line(rt, op, Relation::Less)?;
+    line(rt, op, Relation::Equal)?;
+    line(rt, op, Relation::Greater)?;
+    line(rt, op, Relation::Absent)
 }
 
-fn main() {
-    four(0);
-    four(1);
-    four(2);
-    four(3);
-    four(4);
-    four(5);
+fn main(rt: HostRuntime) -> io::Result<()> {
+    four(&rt, 0)?;
+    four(&rt, 1)?;
+    four(&rt, 2)?;
+    four(&rt, 3)?;
+    four(&rt, 4)?;
+    four(&rt, 5)
 }

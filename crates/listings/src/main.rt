@@ -6,21 +6,28 @@
 
 ghost use Rattle.std.specs.Prelude.{◌<◌, ◌≤◌, ◌≡◌, length};
 
-// What became of an input's head: 0 read, 1 the stream had ended, 2 malformed; whether a budget stands behind the job, and
-// the length of the input.
-#[derive(Clone, Copy)]
-struct Head {
-    state: u8,
-    budgeted: bool,
-    length: u32,
+use std::alloc::Global;
+use std::io;
+use std::io::{Read, Write};
+
+// The most bytes that an input may have.
+const LONGEST: u32 = 196660;
+
+// What became of an input's head.
+enum Head {
+    // Whether a budget stands behind the job, and the length of the input.
+    Input { budgeted: bool, length: u32 },
+    // The stream had ended.
+    Ended,
+    Malformed,
 }
 
-fn no_head(state: u8) -> Head {
-    Head {
-        state: state,
-        budgeted: false,
-        length: 0,
-    }
+// What became of an input.
+enum Outcome {
+    Answered,
+    // The stream had ended.
+    Ended,
+    Malformed,
 }
 
 // A byte as a larger number.
@@ -35,23 +42,31 @@ fn length_of(h: &[u8; 6]) -> u32 {
     wide(h[2]) + 256 * wide(h[3]) + 65536 * wide(h[4]) + 16777216 * wide(h[5])
 }
 
+// The next bytes of the stream, so many, or all that are left where they are fewer.
+fn next_bytes(alloc: Global, stream: &mut impl Read, length: u32) -> io::Result<Vec<u8>> {
+    let mut bytes = Vec::new(alloc);
+    stream.take(length as u64).read_to_end(&mut bytes)?;
+    Ok(bytes)
+}
+
 // The next head.
-fn next_head() -> Head {
-    let mut h: [u8; 6] = [0; 6];
-    let n = io::read_full(0, &mut h);
-    if n == 0 {
-        return no_head(1);
+fn next_head(alloc: Global, stream: &mut impl Read) -> io::Result<Head> {
+    let h = next_bytes(alloc, stream, 6)?;
+    if h.is_empty() {
+        return Ok(Head::Ended);
     }
-    let lists = (h[0] == b'L') & (h[1] == b'I');
-    let budgeted = (h[0] == b'B') & (h[1] == b'J');
-    if (n != 6) | !(lists | budgeted) {
-        return no_head(2);
+    let Ok(h) = <[u8; 6]>::try_from(h.as_slice()) else {
+        return Ok(Head::Malformed);
+    };
+    let lists = h[0] == b'L' && h[1] == b'I';
+    let budgeted = h[0] == b'B' && h[1] == b'J';
+    if !(lists || budgeted) {
+        return Ok(Head::Malformed);
     }
-    Head {
-        state: 0,
-        budgeted: budgeted,
+    Ok(Head::Input {
+        budgeted,
         length: length_of(&h),
-    }
+    })
 }
 
 // The text for an input, and how many bytes it is.
@@ -64,59 +79,53 @@ fn text_for(budgeted: bool, bytes: &[u8], out: &mut [u8]) -> usize
     reply::list(bytes, out)
 }
 
-// Whether so many bytes are read to the front of a buffer.
-fn is_read(length: u32, to: &mut [u8]) -> bool {
-    let n = io::count(length as isize, to);
-    (n == (length as usize)) & (io::read_full(0, &mut to[..n]) == n)
-}
-
 // The text for an input, written.
-fn answer(budgeted: bool, bytes: &[u8]) {
-    let mut text = io::large_buffer();
-    let k = text_for(budgeted, bytes, &mut text);
-    let m = io::count(k as isize, &text);
-    io::write_all(1, &text[..m]);
+fn answer(rt: &impl Print, alloc: Global, budgeted: bool, bytes: &[u8]) -> io::Result<()> {
+    let mut text = vec![in alloc; 0; 65536]?;
+    let length = text_for(budgeted, bytes, &mut text);
+    io::writer(rt).write_all(&text[..length])
 }
 
-// The next input and its text: 0 where there was one, 1 where the stream had ended, 2 where it is malformed.
-fn next() -> u8 {
-    let mut bytes: [u8; 196660] = [0; 196660];
-    let h = next_head();
-    if h.state != 0 {
-        return h.state;
+// The next input and its text.
+fn next(rt: &impl Print, alloc: Global, stream: &mut impl Read) -> io::Result<Outcome> {
+    match next_head(alloc, stream)? {
+        Head::Ended => Ok(Outcome::Ended),
+        Head::Malformed => Ok(Outcome::Malformed),
+        Head::Input { budgeted, length } => {
+            if length > LONGEST {
+                return Ok(Outcome::Malformed);
+            }
+            let bytes = next_bytes(alloc, stream, length)?;
+            if bytes.len() != length as usize {
+                return Ok(Outcome::Malformed);
+            }
+            answer(rt, alloc, budgeted, &bytes)?;
+            Ok(Outcome::Answered)
+        }
     }
-    if !is_read(h.length, &mut bytes) {
-        return 2;
-    }
-    let n = io::count(h.length as isize, &bytes);
-    answer(h.budgeted, &bytes[..n]);
-    0
 }
 
-// The last line.
-fn end(state: u8, inputs: u32) {
-    if state == 1 {
-        io::write_all(1, b"inputs: ");
-        io::print_decimal(1, inputs as u64);
-        io::write_all(1, b"\n");
+// The last line, after a stream that is well formed or not.
+fn end(rt: &impl Print, is_well_formed: bool, inputs: u32) -> io::Result<()> {
+    if is_well_formed {
+        println!(rt; "inputs: {inputs}")
     } else {
-        io::write_all(1, b"malformed stream\n");
+        println!(rt; "malformed stream")
     }
 }
 
 // Every input; a stream of over a million counts as malformed.
-fn all() {
-    let mut inputs: u32 = 0;
-    while inputs < 1000000 {
-        let state = next();
-        if state != 0 {
-            return end(state, inputs);
+fn all(rt: &impl Print, alloc: Global, stream: &mut impl Read) -> io::Result<()> {
+    for inputs in 0..1000000 {
+        match next(rt, alloc, stream)? {
+            Outcome::Answered => {}
+            Outcome::Ended => return end(rt, true, inputs),
+            Outcome::Malformed => return end(rt, false, inputs),
         }
-        inputs += 1;
     }
-    end(2, inputs)
+    end(rt, false, 1000000)
 }
 
-fn main() {
-    all();
+fn main(rt: HostRuntime) -> io::Result<()> {
+    all(&rt, rt.alloc(), &mut rt.reader())
 }

@@ -1,7 +1,8 @@
-// Job J (01, "The listing") with one byte changed to each of its 256 values, its own among them, counted by number.
+// Job J (docs/job-j.md) with one byte changed to each of its 256 values, its own among them, counted by number.
 ghost use Rattle.std.specs.Prelude.{◌≡◌, ◌<◌, ◌≤◌, length};
 
-use crate::{judge, print};
+use crate::judge;
+use std::io;
 
 // J's data.
 fn data() -> [i32; 21]
@@ -29,7 +30,8 @@ fn number(s: &[u8]) -> u8
     requires { 102 ≡ length s.now }
 {
     let words = data();
-    judge::number(&words, &s[..94], &s[94..])
+    let (question, plan) = s.split_at(94);
+    judge::number(&words, question, plan)
 }
 
 // The number of J with this byte at a place of the question or, behind it, of the plan.
@@ -45,7 +47,7 @@ fn changed(at: usize, byte: u8) -> u8
 fn add(tally: &mut [u64; 12], number: u8) {
     let k = number as usize;
     if k < 12 {
-        tally[k] = std::num::wrapping_add_u64(tally[k], 1);
+        tally[k] = tally[k].wrapping_add(1);
     }
 }
 
@@ -53,10 +55,8 @@ fn add(tally: &mut [u64; 12], number: u8) {
 fn values(tally: &mut [u64; 12], at: usize)
     requires { at < 102 }
 {
-    let mut v: u16 = 0;
-    while v < 256 {
-        add(tally, changed(at, v as u8));
-        v += 1;
+    for byte in 0..=255 {
+        add(tally, changed(at, byte));
     }
 }
 
@@ -64,39 +64,33 @@ fn values(tally: &mut [u64; 12], at: usize)
 fn places(tally: &mut [u64; 12], from: usize, to: usize)
     requires { to ≤ 102 }
 {
-    let mut at = from;
-    while at < to {
+    for at in from..to {
         values(tally, at);
-        at += 1;
     }
 }
 
 // How many changes have a number, in a line.
-fn told(name: &[u8], tally: &[u64; 12], number: usize)
+fn told(rt: &impl Print, name: &str, tally: &[u64; 12], number: usize) -> io::Result<()>
     requires { number < 12 }
 {
-    print::say(name);
-    io::print_decimal(1, number as u64);
-    print::say(b": ");
-    print::line(tally[number]);
+    println!(rt; "{name} {number}: {}", tally[number])
 }
 
 // Every change at some places, a line for 0 and for each number from 3 to 11.
-fn count(name: &[u8], from: usize, to: usize)
+fn count(rt: &impl Print, name: &str, from: usize, to: usize) -> io::Result<()>
     requires { to ≤ 102 }
 {
-    let mut tally: [u64; 12] = [0; 12];
+    let mut tally = [0; 12];
     places(&mut tally, from, to);
-    told(name, &tally, 0);
-    let mut k: usize = 3;
-    while k < 12 {
-        told(name, &tally, k);
-        k += 1;
+    told(rt, name, &tally, 0)?;
+    for number in 3..12 {
+        told(rt, name, &tally, number)?;
     }
+    Ok(())
 }
 
 // Every change of the question, and every change of the plan.
-pub(crate) fn all() {
-    count(b"question ", 0, 94);
-    count(b"plan ", 94, 102);
+pub(crate) fn all(rt: &impl Print) -> io::Result<()> {
+    count(rt, "question", 0, 94)?;
+    count(rt, "plan", 94, 102)
 }

@@ -1,4 +1,4 @@
-// The number of a job: causes 3 to 11 (01, "Causes of refusal").
+// The number of a job: causes 3 to 11 of refusal.
 
 // The lowest number from 3 to 11 that applies, 0 where none does.
 pub(crate) fn number(words: &[i32], question: &[u8], plan: &[u8]) -> u8 {

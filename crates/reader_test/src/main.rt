@@ -6,12 +6,14 @@
 mod changes;
 mod judge;
 mod parts;
-mod print;
 mod stream;
 
+use std::io;
+
 // All the lines; those of J only after a stream that is well formed.
-fn main() {
-    if stream::all() {
-        changes::all();
+fn main(rt: HostRuntime) -> io::Result<()> {
+    if stream::all(&rt, rt.alloc(), &mut rt.reader())? {
+        changes::all(&rt)?;
     }
+    Ok(())
 }

@@ -1,81 +1,106 @@
-// The jobs of the stream on standard input, one after another: parts DA, QU, PN and BU, to its end. A function here
-// answers 0 where it has read a job, 1 where the stream had ended, and 2 where it is malformed.
-use crate::{judge, parts, print};
+// The jobs of the stream on standard input, one after another: parts DA, QU, PN and BU, to its end.
+use crate::parts::Part;
+use crate::{judge, parts};
+use std::alloc::Global;
+use std::io;
+use std::io::Read;
+
+// What became of a job.
+enum Outcome {
+    Judged,
+    // The stream had ended.
+    Ended,
+    Malformed,
+}
 
 // The part BU, which nothing here needs, and then the job's line.
-fn with_plan(words: &[i32], question: &[u8], plan: &[u8]) -> u8 {
-    let mut rest: [u8; 24] = [0; 24];
-    let p = parts::contents(b'B', b'U', &mut rest);
-    if (p.state != 0) | (p.length != 24) {
-        return 2;
+fn with_plan(
+    rt: &impl Print,
+    alloc: Global,
+    stream: &mut impl Read,
+    words: &[i32],
+    question: &[u8],
+    plan: &[u8],
+) -> io::Result<Outcome> {
+    let Part::Contents(rest) = parts::contents(alloc, stream, *b"BU", 24)? else {
+        return Ok(Outcome::Malformed);
+    };
+    if rest.len() != 24 {
+        return Ok(Outcome::Malformed);
     }
-    print::line(judge::number(words, question, plan) as u64);
-    0
+    println!(rt; "{}", judge::number(words, question, plan))?;
+    Ok(Outcome::Judged)
 }
 
 // The part PN and what follows it.
-fn with_question(words: &[i32], question: &[u8]) -> u8 {
-    let mut plan: [u8; 64] = [0; 64];
-    let p = parts::contents(b'P', b'N', &mut plan);
-    if p.state != 0 {
-        return 2;
-    }
-    let n = io::count(p.length as isize, &plan);
-    with_plan(words, question, &plan[..n])
+fn with_question(
+    rt: &impl Print,
+    alloc: Global,
+    stream: &mut impl Read,
+    words: &[i32],
+    question: &[u8],
+) -> io::Result<Outcome> {
+    let Part::Contents(plan) = parts::contents(alloc, stream, *b"PN", 64)? else {
+        return Ok(Outcome::Malformed);
+    };
+    with_plan(rt, alloc, stream, words, question, &plan)
 }
 
 // The part QU and what follows it.
-fn with_words(words: &[i32]) -> u8 {
-    let mut question: [u8; 4096] = [0; 4096];
-    let p = parts::contents(b'Q', b'U', &mut question);
-    if p.state != 0 {
-        return 2;
-    }
-    let n = io::count(p.length as isize, &question);
-    with_question(words, &question[..n])
+fn with_words(
+    rt: &impl Print,
+    alloc: Global,
+    stream: &mut impl Read,
+    words: &[i32],
+) -> io::Result<Outcome> {
+    let Part::Contents(question) = parts::contents(alloc, stream, *b"QU", 4096)? else {
+        return Ok(Outcome::Malformed);
+    };
+    with_question(rt, alloc, stream, words, &question)
 }
 
 // The data's words and what follows them.
-fn with_data(s: &[u8]) -> u8 {
+fn with_data(
+    rt: &impl Print,
+    alloc: Global,
+    stream: &mut impl Read,
+    s: &[u8],
+) -> io::Result<Outcome> {
     if s.len() % 4 != 0 {
-        return 2;
+        return Ok(Outcome::Malformed);
     }
-    let mut words: [i32; 1024] = [0; 1024];
+    let mut words = vec![in alloc; 0; 1024]?;
     let n = parts::decode(s, &mut words);
-    with_words(&words[..n])
+    with_words(rt, alloc, stream, &words[..n])
 }
 
 // The next job.
-fn job() -> u8 {
-    let mut bytes: [u8; 4096] = [0; 4096];
-    let p = parts::contents(b'D', b'A', &mut bytes);
-    if p.state != 0 {
-        return p.state;
+fn job(rt: &impl Print, alloc: Global, stream: &mut impl Read) -> io::Result<Outcome> {
+    match parts::contents(alloc, stream, *b"DA", 4096)? {
+        Part::Contents(bytes) => with_data(rt, alloc, stream, &bytes),
+        Part::Ended => Ok(Outcome::Ended),
+        Part::Malformed => Ok(Outcome::Malformed),
     }
-    let n = io::count(p.length as isize, &bytes);
-    with_data(&bytes[..n])
 }
 
 // The last line, and whether the stream was well formed.
-fn end(state: u8, jobs: u32) -> bool {
-    if state == 1 {
-        print::say(b"jobs: ");
-        print::line(jobs as u64);
-        return true;
+fn end(rt: &impl Print, is_well_formed: bool, jobs: u32) -> io::Result<bool> {
+    if is_well_formed {
+        println!(rt; "jobs: {jobs}")?;
+    } else {
+        println!(rt; "malformed stream")?;
     }
-    print::say(b"malformed stream\n");
-    false
+    Ok(is_well_formed)
 }
 
 // Every job, a line each, and their number; a stream of over a million jobs counts as malformed.
-pub(crate) fn all() -> bool {
-    let mut jobs: u32 = 0;
-    while jobs < 1000000 {
-        let state = job();
-        if state != 0 {
-            return end(state, jobs);
+pub(crate) fn all(rt: &impl Print, alloc: Global, stream: &mut impl Read) -> io::Result<bool> {
+    for jobs in 0..1000000 {
+        match job(rt, alloc, stream)? {
+            Outcome::Judged => {}
+            Outcome::Ended => return end(rt, true, jobs),
+            Outcome::Malformed => return end(rt, false, jobs),
         }
-        jobs += 1;
     }
-    end(2, jobs)
+    end(rt, false, 1000000)
 }

@@ -3,142 +3,132 @@ ghost use Rattle.std.specs.Prelude.{◌≡◌, nat_abs};
 
 use aggregates::Aggregate;
 use rows::Added;
+use std::io;
 use value::{Compared, Mean, Value, Verdict};
 
 // A value.
 pub(crate) fn over(num: i64, den: i64) -> Value {
-    Value { num: num, den: den }
+    Value { num, den }
 }
 
 // Text as it is.
-pub(crate) fn say(s: &[u8]) {
-    io::write_all(1, s);
+pub(crate) fn say(rt: &impl Print, text: &str) -> io::Result<()> {
+    print!(rt; "{text}")
 }
 
 // The size of a number.
 pub(crate) fn size(x: i64) -> u64
     ensures { result ≡ nat_abs x }
 {
-    if x < 0 {
-        return (-1 - x) as u64 + 1;
-    }
-    x as u64
+    x.unsigned_abs()
 }
 
 // A number without sign.
-pub(crate) fn number(n: u64) {
-    io::print_decimal(1, n);
+pub(crate) fn number(rt: &impl Print, n: u64) -> io::Result<()> {
+    print!(rt; "{n}")
 }
 
 // A number with its sign.
-pub(crate) fn signed(x: i64) {
+pub(crate) fn signed(rt: &impl Print, x: i64) -> io::Result<()> {
     if x < 0 {
-        say(b"-");
+        say(rt, "-")?;
     }
-    number(size(x));
+    number(rt, size(x))
 }
 
 // A value as numerator/denominator.
-pub(crate) fn ratio(v: Value) {
-    signed(v.num);
-    say(b"/");
-    signed(v.den);
+pub(crate) fn ratio(rt: &impl Print, v: Value) -> io::Result<()> {
+    signed(rt, v.num)?;
+    say(rt, "/")?;
+    signed(rt, v.den)
 }
 
 // A truth.
-pub(crate) fn truth(t: bool) {
-    if t {
-        say(b"yes");
-    } else {
-        say(b"no");
-    }
+pub(crate) fn truth(rt: &impl Print, t: bool) -> io::Result<()> {
+    if t { say(rt, "yes") } else { say(rt, "no") }
 }
 
 // An order.
-pub(crate) fn order(o: Compared) {
+pub(crate) fn order(rt: &impl Print, o: Compared) -> io::Result<()> {
     match o {
-        Compared::Less => say(b"less"),
-        Compared::Equal => say(b"equal"),
-        Compared::Greater => say(b"greater"),
-        Compared::Outside => say(b"outside"),
+        Compared::Less => say(rt, "less"),
+        Compared::Equal => say(rt, "equal"),
+        Compared::Greater => say(rt, "greater"),
+        Compared::Outside => say(rt, "outside"),
     }
 }
 
 // A verdict.
-pub(crate) fn verdict(v: Verdict) {
+pub(crate) fn verdict(rt: &impl Print, v: Verdict) -> io::Result<()> {
     match v {
-        Verdict::Yes => say(b"yes"),
-        Verdict::No => say(b"no"),
-        Verdict::Outside => say(b"outside"),
+        Verdict::Yes => say(rt, "yes"),
+        Verdict::No => say(rt, "no"),
+        Verdict::Outside => say(rt, "outside"),
     }
 }
 
 // An average.
-pub(crate) fn mean(m: Mean) {
+pub(crate) fn mean(rt: &impl Print, m: Mean) -> io::Result<()> {
     match m {
-        Mean::Of(v) => ratio(v),
-        Mean::Outside => say(b"outside"),
+        Mean::Of(v) => ratio(rt, v),
+        Mean::Outside => say(rt, "outside"),
     }
 }
 
 // An aggregate.
-pub(crate) fn aggregate(a: Aggregate) {
+pub(crate) fn aggregate(rt: &impl Print, a: Aggregate) -> io::Result<()> {
     match a {
-        Aggregate::Of(v) => ratio(v),
-        Aggregate::Outside => say(b"outside"),
-        Aggregate::Refused => say(b"refused"),
+        Aggregate::Of(v) => ratio(rt, v),
+        Aggregate::Outside => say(rt, "outside"),
+        Aggregate::Refused => say(rt, "refused"),
     }
 }
 
 // A place, with what it is the place of.
-pub(crate) fn place(s: &[u8], k: usize) {
-    say(s);
-    number(k as u64);
+pub(crate) fn place(rt: &impl Print, text: &str, k: usize) -> io::Result<()> {
+    print!(rt; "{text}{k}")
 }
 
 // What became of a row.
-pub(crate) fn added(a: Added) {
+pub(crate) fn added(rt: &impl Print, a: Added) -> io::Result<()> {
     match a {
-        Added::New(k) => place(b"new ", k),
-        Added::There(k) => place(b"there ", k),
-        Added::Outside => say(b"outside"),
-        Added::Large => say(b"large"),
-        Added::Refused => say(b"refused"),
+        Added::New(k) => place(rt, "new ", k),
+        Added::There(k) => place(rt, "there ", k),
+        Added::Outside => say(rt, "outside"),
+        Added::Large => say(rt, "large"),
+        Added::Refused => say(rt, "refused"),
     }
 }
 
 // The value at place p of a set of n columns, the first of a row after its number.
-pub(crate) fn cell(words: &[i64], n: usize, p: usize) {
+pub(crate) fn cell(rt: &impl Print, words: &[i64], n: usize, p: usize) -> io::Result<()> {
     if n == 0 {
-        return;
+        return Ok(());
     }
     if p % n == 0 {
-        place(b"\nrow ", p / n);
+        place(rt, "\nrow ", p / n)?;
     }
-    entry(words, p);
+    entry(rt, words, p)
 }
 
 // The first m values of a set of n columns, a row a line.
-pub(crate) fn set(words: &[i64], n: usize, m: usize) {
-    let mut p: usize = 0;
-    while p < m {
-        cell(words, n, p);
-        p += 1;
+pub(crate) fn set(rt: &impl Print, words: &[i64], n: usize, m: usize) -> io::Result<()> {
+    for p in 0..m {
+        cell(rt, words, n, p)?;
     }
-    say(b"\n");
+    say(rt, "\n")
 }
 
 // The value at place p.
-pub(crate) fn entry(words: &[i64], p: usize) {
-    say(b" ");
-    ratio(words::read(words, p));
+pub(crate) fn entry(rt: &impl Print, words: &[i64], p: usize) -> io::Result<()> {
+    say(rt, " ")?;
+    ratio(rt, words::read(words, p))
 }
 
 // The first n values of a row.
-pub(crate) fn row(words: &[i64], n: usize) {
-    let mut p: usize = 0;
-    while p < n {
-        entry(words, p);
-        p += 1;
+pub(crate) fn row(rt: &impl Print, words: &[i64], n: usize) -> io::Result<()> {
+    for p in 0..n {
+        entry(rt, words, p)?;
     }
+    Ok(())
 }

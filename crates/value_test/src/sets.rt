@@ -1,8 +1,9 @@
 // Sets of rows: one at the ends of the numerators, one of drawn rows that grows too large, and whole buffers.
-ghost use Rattle.std.specs.Prelude.{ℕ, ◌<◌, ◌≤◌};
+ghost use Rattle.std.specs.Prelude.{ℕ, ◌<◌, ◌≤◌, IfOk};
 
 use crate::print;
 use rows::Added;
+use std::io;
 use value::{Mean, Value};
 
 // One for a row that is new.
@@ -19,141 +20,169 @@ fn is_new(a: Added) -> usize
 }
 
 // A row of n columns put among count rows, and its line.
-fn insert(words: &mut [i64], n: usize, count: usize, row: &[i64]) -> usize
-    ensures { result ≤ 1 }
+fn insert(
+    rt: &impl Print,
+    words: &mut [i64],
+    n: usize,
+    count: usize,
+    row: &[i64],
+) -> io::Result<usize>
+    ensures { IfOk result (λ n. n ≤ 1) }
 {
-    print::say(b"insert");
-    print::row(row, n);
+    print::say(rt, "insert")?;
+    print::row(rt, row, n)?;
     let a = rows::insert(words, n, count, row);
-    print::say(b" is ");
-    print::added(a);
-    print::say(b"\n");
-    is_new(a)
+    print::say(rt, " is ")?;
+    print::added(rt, a)?;
+    print::say(rt, "\n")?;
+    Ok(is_new(a))
 }
 
 // A row of two values put among count rows.
-fn insert_two(words: &mut [i64], count: usize, x: Value, y: Value) -> usize
-    ensures { result ≤ 1 }
+fn insert_two(
+    rt: &impl Print,
+    words: &mut [i64],
+    count: usize,
+    x: Value,
+    y: Value,
+) -> io::Result<usize>
+    ensures { IfOk result (λ n. n ≤ 1) }
 {
     let mut row: [i64; 4] = [0; 4];
     words::write(&mut row, 0, x);
     words::write(&mut row, 1, y);
-    insert(words, 2, count, &row)
+    insert(rt, words, 2, count, &row)
 }
 
 // A question and its answer.
-fn answer(s: &[u8], t: bool) {
-    print::say(s);
-    print::truth(t);
-    print::say(b"\n");
+fn answer(rt: &impl Print, text: &str, t: bool) -> io::Result<()> {
+    print::say(rt, text)?;
+    print::truth(rt, t)?;
+    print::say(rt, "\n")
 }
 
 // An aggregate of a column of a set, and its line.
-fn aggregate(words: &[i64], n: usize, count: usize, f: u8, c: usize) {
-    print::say(b"aggregate ");
-    print::number(f as u64);
-    print::place(b" of column ", c);
-    print::place(b" of ", n);
-    print::place(b", rows ", count);
-    print::say(b", is ");
-    print::aggregate(aggregates::aggregate_of(words, n, count, f, c));
-    print::say(b"\n");
+fn aggregate(
+    rt: &impl Print,
+    words: &[i64],
+    n: usize,
+    count: usize,
+    f: u8,
+    c: usize,
+) -> io::Result<()> {
+    print::say(rt, "aggregate ")?;
+    print::number(rt, f as u64)?;
+    print::place(rt, " of column ", c)?;
+    print::place(rt, " of ", n)?;
+    print::place(rt, ", rows ", count)?;
+    print::say(rt, ", is ")?;
+    print::aggregate(rt, aggregates::aggregate_of(words, n, count, f, c))?;
+    print::say(rt, "\n")
 }
 
 // The five aggregates of a column.
-fn aggregates(words: &[i64], n: usize, count: usize, c: usize) {
-    aggregate(words, n, count, 0, c);
-    aggregate(words, n, count, 1, c);
-    aggregate(words, n, count, 2, c);
-    aggregate(words, n, count, 3, c);
-    aggregate(words, n, count, 4, c);
+fn aggregates(rt: &impl Print, words: &[i64], n: usize, count: usize, c: usize) -> io::Result<()> {
+    aggregate(rt, words, n, count, 0, c)?;
+    aggregate(rt, words, n, count, 1, c)?;
+    aggregate(rt, words, n, count, 2, c)?;
+    aggregate(rt, words, n, count, 3, c)?;
+    aggregate(rt, words, n, count, 4, c)
 }
 
 // Rows at the ends of the numerators.
-fn extremes(words: &mut [i64]) {
+fn extremes(rt: &impl Print, words: &mut [i64]) -> io::Result<()> {
     let low = print::over(-16777216000000, 1);
     let high = print::over(16777216000000, 1);
-    insert_two(words, 0, high, print::over(905, 1));
-    insert_two(words, 1, high, print::over(1811, 2));
-    insert_two(words, 2, low, print::over(1000000000000000, 1));
-    insert_two(words, 3, low, print::over(-1000000000000000, 1));
+    insert_two(rt, words, 0, high, print::over(905, 1))?;
+    insert_two(rt, words, 1, high, print::over(1811, 2))?;
+    insert_two(rt, words, 2, low, print::over(1000000000000000, 1))?;
+    insert_two(rt, words, 3, low, print::over(-1000000000000000, 1))?;
+    Ok(())
 }
 
 // Rows at the ends of the denominators.
-fn neighbours(words: &mut [i64]) {
+fn neighbours(rt: &impl Print, words: &mut [i64]) -> io::Result<()> {
     let high = print::over(16777216000000, 1);
-    insert_two(words, 4, high, print::over(16777215999999, 256));
-    insert_two(words, 5, high, print::over(16777215999998, 255));
+    insert_two(rt, words, 4, high, print::over(16777215999999, 256))?;
+    insert_two(rt, words, 5, high, print::over(16777215999998, 255))?;
+    Ok(())
 }
 
 // Rows that are there, outside the bounds, or too many for the words.
-fn strangers(words: &mut [i64]) {
+fn strangers(rt: &impl Print, words: &mut [i64]) -> io::Result<()> {
     let low = print::over(-16777216000000, 1);
     let one = print::over(1, 1);
-    insert_two(words, 6, low, print::over(1000000000000000, 1));
-    insert_two(words, 6, low, print::over(1000000000000001, 1));
-    insert_two(words, 6, print::over(1, 257), one);
-    insert_two(words, 6, one, one);
-    insert_two(words, 7, one, one);
-    insert_two(words, 257, one, one);
+    insert_two(rt, words, 6, low, print::over(1000000000000000, 1))?;
+    insert_two(rt, words, 6, low, print::over(1000000000000001, 1))?;
+    insert_two(rt, words, 6, print::over(1, 257), one)?;
+    insert_two(rt, words, 6, one, one)?;
+    insert_two(rt, words, 7, one, one)?;
+    insert_two(rt, words, 257, one, one)?;
+    Ok(())
 }
 
 // A value outside the bounds written over one of a column.
-fn spoiled(words: &mut [i64]) {
+fn spoiled(rt: &impl Print, words: &mut [i64]) -> io::Result<()> {
     let odd = print::over(1, 257);
-    answer(b"write 1/257 at place 1: ", words::write(words, 1, odd));
-    answer(b"write 1/257 at place 13: ", words::write(words, 13, odd));
-    aggregate(words, 2, 6, 0, 1);
-    aggregate(words, 2, 6, 1, 1);
-    aggregate(words, 2, 6, 2, 1);
-    aggregate(words, 2, 6, 2, 0);
+    answer(rt, "write 1/257 at place 1: ", words::write(words, 1, odd))?;
+    answer(
+        rt,
+        "write 1/257 at place 13: ",
+        words::write(words, 13, odd),
+    )?;
+    aggregate(rt, words, 2, 6, 0, 1)?;
+    aggregate(rt, words, 2, 6, 1, 1)?;
+    aggregate(rt, words, 2, 6, 2, 1)?;
+    aggregate(rt, words, 2, 6, 2, 0)
 }
 
 // A set at the ends, in words that hold 13 values.
-pub(crate) fn ends() {
+pub(crate) fn ends(rt: &impl Print) -> io::Result<()> {
     let mut words: [i64; 27] = [0; 27];
-    extremes(&mut words);
-    neighbours(&mut words);
-    strangers(&mut words);
-    print::set(&words, 2, 12);
-    aggregates(&words, 2, 6, 0);
-    aggregates(&words, 2, 0, 1);
-    aggregate(&words, 2, 6, 2, 1);
-    aggregate(&words, 2, 6, 3, 1);
-    aggregate(&words, 2, 7, 3, 1);
-    aggregate(&words, 2, 6, 3, 2);
-    aggregate(&words, 5, 2, 3, 1);
-    spoiled(&mut words);
+    extremes(rt, &mut words)?;
+    neighbours(rt, &mut words)?;
+    strangers(rt, &mut words)?;
+    print::set(rt, &words, 2, 12)?;
+    aggregates(rt, &words, 2, 6, 0)?;
+    aggregates(rt, &words, 2, 0, 1)?;
+    aggregate(rt, &words, 2, 6, 2, 1)?;
+    aggregate(rt, &words, 2, 6, 3, 1)?;
+    aggregate(rt, &words, 2, 7, 3, 1)?;
+    aggregate(rt, &words, 2, 6, 3, 2)?;
+    aggregate(rt, &words, 5, 2, 3, 1)?;
+    spoiled(rt, &mut words)
 }
 
 // Rows with absent values, in no order.
-fn insert_absents(words: &mut [i64]) {
+fn insert_absents(rt: &impl Print, words: &mut [i64]) -> io::Result<()> {
     let none = value::absent();
-    insert_two(words, 0, print::over(0, 1), none);
-    insert_two(words, 1, print::over(7, 1), print::over(-1, 2));
-    insert_two(words, 2, none, print::over(3, 1));
-    insert_two(words, 3, print::over(-5, 1), none);
+    insert_two(rt, words, 0, print::over(0, 1), none)?;
+    insert_two(rt, words, 1, print::over(7, 1), print::over(-1, 2))?;
+    insert_two(rt, words, 2, none, print::over(3, 1))?;
+    insert_two(rt, words, 3, print::over(-5, 1), none)?;
+    Ok(())
 }
 
 // Further ones, of which one is put twice and one is outside the bounds.
-fn insert_more_absents(words: &mut [i64]) {
+fn insert_more_absents(rt: &impl Print, words: &mut [i64]) -> io::Result<()> {
     let none = value::absent();
-    insert_two(words, 4, none, none);
-    insert_two(words, 5, none, none);
-    insert_two(words, 5, print::over(1, 0), none);
-    insert_two(words, 5, print::over(4, 1), none);
+    insert_two(rt, words, 4, none, none)?;
+    insert_two(rt, words, 5, none, none)?;
+    insert_two(rt, words, 5, print::over(1, 0), none)?;
+    insert_two(rt, words, 5, print::over(4, 1), none)?;
+    Ok(())
 }
 
 // A set with absent values: its order, its aggregates, and those of its first two rows, absent in the first column.
-pub(crate) fn absents() {
+pub(crate) fn absents(rt: &impl Print) -> io::Result<()> {
     let mut words: [i64; 24] = [0; 24];
-    insert_absents(&mut words);
-    insert_more_absents(&mut words);
-    print::set(&words, 2, 12);
-    aggregates(&words, 2, 6, 0);
-    aggregate(&words, 2, 6, 2, 1);
-    aggregate(&words, 2, 6, 3, 1);
-    aggregates(&words, 2, 2, 0);
+    insert_absents(rt, &mut words)?;
+    insert_more_absents(rt, &mut words)?;
+    print::set(rt, &words, 2, 12)?;
+    aggregates(rt, &words, 2, 6, 0)?;
+    aggregate(rt, &words, 2, 6, 2, 1)?;
+    aggregate(rt, &words, 2, 6, 3, 1)?;
+    aggregates(rt, &words, 2, 2, 0)
 }
 
 // A drawn number.
@@ -203,59 +232,62 @@ fn put(row: &mut [i64], p: usize, sum: i64, count: u64) {
 }
 
 // A drawn row of four columns put among count rows.
-fn insert_drawn(words: &mut [i64], count: usize, s: Seed) -> usize
-    ensures { result ≤ 1 }
+fn insert_drawn(rt: &impl Print, words: &mut [i64], count: usize, s: Seed) -> io::Result<usize>
+    ensures { IfOk result (λ n. n ≤ 1) }
 {
     let mut row: [i64; 8] = [0; 8];
     put(&mut row, 0, small(s.x / 16 % 5), 1 + s.x / 256 % 3);
     put(&mut row, 1, large(s.x / 1024 % 2), 255 + s.x / 4096 % 2);
     put(&mut row, 2, small(s.x / 65536 % 4), 1);
     put(&mut row, 3, 1823, 1 + s.x / 1048576 % 2);
-    insert(words, 4, count, &row)
+    insert(rt, words, 4, count, &row)
 }
 
 // 600 drawn rows.
-fn fill(words: &mut [i64]) -> usize
-    ensures { result ≤ 600 }
+fn fill(rt: &impl Print, words: &mut [i64]) -> io::Result<usize>
+    ensures { IfOk result (λ n. n ≤ 600) }
 {
     let mut s = Seed { x: 1 };
-    let mut count: usize = 0;
-    let mut i: usize = 0;
-    while i < 600 {
+    let mut count = 0;
+    for _ in 0..600usize {
         s = next(s);
-        count += insert_drawn(words, count, s);
-        i += 1;
+        count += insert_drawn(rt, words, count, s)?;
     }
-    count
+    Ok(count)
 }
 
 // A set copied, and buffers made zero.
-fn buffers(words: &mut [i64]) {
+fn buffers(rt: &impl Print, words: &mut [i64]) -> io::Result<()> {
     let mut result: [i64; 2048] = [7; 2048];
-    answer(b"copy 1023 values: ", words::copy(words, &mut result, 1023));
-    print::say(b"value 1022 and the next:");
-    print::row(&result[2044..], 2);
     answer(
-        b"\ncopy 1025 values: ",
+        rt,
+        "copy 1023 values: ",
+        words::copy(words, &mut result, 1023),
+    )?;
+    print::say(rt, "value 1022 and the next:")?;
+    print::row(rt, &result[2044..], 2)?;
+    answer(
+        rt,
+        "\ncopy 1025 values: ",
         words::copy(words, &mut result, 1025),
-    );
-    answer(b"zero 2046 words: ", words::zero(&mut result, 2046));
-    print::say(b"value 1022 and the next:");
-    print::row(&result[2044..], 2);
-    answer(b"\nzero 2049 words: ", words::zero(&mut result, 2049));
+    )?;
+    answer(rt, "zero 2046 words: ", words::zero(&mut result, 2046))?;
+    print::say(rt, "value 1022 and the next:")?;
+    print::row(rt, &result[2044..], 2)?;
+    answer(rt, "\nzero 2049 words: ", words::zero(&mut result, 2049))
 }
 
 // A set of drawn rows, to the 257th.
-pub(crate) fn drawn() {
+pub(crate) fn drawn(rt: &impl Print) -> io::Result<()> {
     let mut words: [i64; 2048] = [0; 2048];
-    let count = fill(&mut words);
-    print::place(b"new rows ", count);
-    print::set(&words, 4, 1024);
-    aggregates(&words, 4, 256, 2);
-    aggregate(&words, 4, 256, 2, 0);
-    aggregate(&words, 4, 256, 3, 0);
-    aggregate(&words, 4, 256, 2, 1);
-    aggregate(&words, 4, 256, 3, 3);
-    aggregate(&words, 4, 257, 0, 0);
-    buffers(&mut words);
+    let count = fill(rt, &mut words)?;
+    print::place(rt, "new rows ", count)?;
+    print::set(rt, &words, 4, 1024)?;
+    aggregates(rt, &words, 4, 256, 2)?;
+    aggregate(rt, &words, 4, 256, 2, 0)?;
+    aggregate(rt, &words, 4, 256, 3, 0)?;
+    aggregate(rt, &words, 4, 256, 2, 1)?;
+    aggregate(rt, &words, 4, 256, 3, 3)?;
+    aggregate(rt, &words, 4, 257, 0, 0)?;
+    buffers(rt, &mut words)
 }
