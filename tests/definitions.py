@@ -17,7 +17,7 @@ import sys
 import tempfile
 
 import evaluator
-from product import fmt as streams
+import format as streams
 import generate
 from usage import help_first
 

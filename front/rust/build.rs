@@ -3,10 +3,6 @@ use std::env;
 use std::path::PathBuf;
 
 fn main() {
-    let target = |what: &str| env::var(format!("CARGO_CFG_TARGET_{what}")).unwrap_or_default();
-    if target("ARCH") != "x86_64" || target("OS") != "linux" {
-        panic!("the engine's archive is for x86-64 Linux, not for {} {}", target("ARCH"), target("OS"));
-    }
     let dir = match env::var_os("ABE_ARCHIVE_DIR") {
         Some(dir) => PathBuf::from(dir),
         None => PathBuf::from(env::var_os("CARGO_MANIFEST_DIR").unwrap()).join("../../target/staticlib"),
