@@ -1,6 +1,7 @@
 """Tests abe: the example, every question under tests/questions, mistakes in files, and the words of refusals.
 
-Prints a line for each check; status 1 if one fails. It needs the built program named budgeted (`rt check budgeted`).
+Prints a line for each check; status 1 if one fails. The program named budgeted is proved and built first where it
+is not there (`rt run` in crates/budgeted).
 """
 
 import subprocess

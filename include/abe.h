@@ -1,4 +1,4 @@
-/* The query engine for C. The archive that goes with it is built by `rt staticlib capi` (target/staticlib/libcapi.a);
+/* The query engine for C. The archive that goes with it is built by `rt lib` in crates/capi (out/libcapi.a there);
  * `front/run` builds and runs a program over it. `docs/FORMATS.md` has the formats of data, question and plan, byte by byte.
  *
  * Each slice is passed as a pointer and its length in elements (not bytes). A pointer is never null, is aligned for its
