@@ -1,1 +1,1 @@
-"""The front end's tests, by subject; front/test.py runs them all."""
+"""The front end's tests, by subject; front/next/test.py runs them all."""

@@ -1,4 +1,4 @@
-// Links the engine's archive. It is looked for in ABE_ARCHIVE_DIR, and without that where `rt staticlib capi` puts it.
+// Links the engine's archive. It is looked for in ABE_ARCHIVE_DIR, and without that where `rt lib` puts it.
 use std::env;
 use std::path::PathBuf;
 
@@ -9,11 +9,11 @@ fn main() {
     }
     let dir = match env::var_os("ABE_ARCHIVE_DIR") {
         Some(dir) => PathBuf::from(dir),
-        None => PathBuf::from(env::var_os("CARGO_MANIFEST_DIR").unwrap()).join("../../target/staticlib"),
+        None => PathBuf::from(env::var_os("CARGO_MANIFEST_DIR").unwrap()).join("../../../crates/capi/out"),
     };
     let archive = dir.join("libcapi.a");
     if !archive.is_file() {
-        panic!("{} is missing: build it by `rt staticlib capi`, or by front/run", archive.display());
+        panic!("{} is missing: build it by `rt lib` in crates/capi, or by front/run", archive.display());
     }
     println!("cargo:rustc-link-search=native={}", dir.display());
     println!("cargo:rustc-link-lib=static=capi");
