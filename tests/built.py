@@ -26,11 +26,19 @@ PROVED = "logic=proved "
 NO_TOOLCHAIN = "the command `rt` is not there: what is tested is proved and built by the Rattle toolchain"
 
 
+@cache
+def needs():
+    """For each crate of this repository the others of it that its line in crates.txt names."""
+    lines = (line.split("#")[0] for line in (TOP / "crates.txt").read_text().splitlines())
+    found = {crate.split()[0]: needed.split() for crate, colon, needed in (line.partition(":") for line in lines) if colon}
+    return {crate: [each for each in needed if each in found] for crate, needed in found.items()}
+
+
+@cache
 def crates_of(name):
     """The crates of this repository that a program or the archive is built from, itself the last."""
-    lines = (line.split("#")[0] for line in (TOP / "crates.txt").read_text().splitlines())
-    needs = {crate.split()[0]: needed.split() for crate, colon, needed in (line.partition(":") for line in lines) if colon}
-    return [crate for crate in needs[name] if crate in needs] + [name]
+    below = [each for needed in needs()[name] for each in crates_of(needed)]
+    return [*dict.fromkeys(below), name]
 
 
 def place_of(name):
@@ -78,7 +86,8 @@ def build_over_ci(newest):
              "--extern", f"std={kit}/rlibs/std.rlib", "-L", f"dependency={kit}/rlibs", "--links", f"{ARCHIVE}=",
              "--toolchain", kit / "toolchain", "--backend", "llvm", "-o", place_of(ARCHIVE)]
     for crate, rlib in below.items():
-        words += ["--extern", f"{crate}={rlib}/{crate}.rlib", "-L", f"dependency={rlib}"]
+        words += ["--extern", f"{crate}={rlib}/{crate}.rlib"] if crate in needs()[ARCHIVE] else []
+        words += ["-L", f"dependency={rlib}"]
     place_of(ARCHIVE).parent.mkdir(exist_ok=True)
     done = subprocess.run(words, cwd=CRATES / ARCHIVE, stdin=subprocess.DEVNULL, stdout=subprocess.PIPE,
                           stderr=subprocess.STDOUT, text=True)
