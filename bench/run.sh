@@ -6,7 +6,7 @@
 #   ./run.sh profile JOB..          where abe_run's instructions go, as in: profile w1-file w2-index
 #
 # Needs rt, gcc, rustc, python3, valgrind and SQLite's headers (libsqlite3-dev).
-# ARCHIVE=path/to/libcapi.a takes an engine already built. Writes only in target/ (by rt)
+# ARCHIVE=path/to/libcapi.a takes an engine already built. Writes only in crates/*/out (by rt)
 # and in a temporary folder, which is removed at the end.
 set -euo pipefail
 case ${1-} in -h | --help) sed -n '2,/^[^#]/s/^# \{0,1\}//p' "$0"; exit ;; esac
@@ -17,8 +17,7 @@ BIN=$TMP/bin
 mkdir -p "$BIN" "$TMP/out"
 
 if [ -z "${ARCHIVE:-}" ]; then
-    (cd .. && rt staticlib capi) >"$TMP/rt.log" 2>&1 || { tail -5 "$TMP/rt.log"; exit 1; }
-    ARCHIVE=../target/staticlib/libcapi.a
+    ARCHIVE=../$(python3 ../tests/built.py capi)
 fi
 CC="gcc -O3 -Wall -Wextra -Wl,-z,now"       # bound at the start, not inside a counted call
 $CC -o "$BIN/abe" abe.c "$ARCHIVE"

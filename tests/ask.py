@@ -11,9 +11,9 @@ mistake in the file, or it cannot be read, in one line.
 
 import sys
 
-from product import printed
+from built import printed
 from evaluator import answer_text, listing, listing_text, run_job
-from product import fmt
+from format import job_bytes
 from notation import compile_file
 from usage import help_first
 
@@ -29,7 +29,7 @@ def of_job(path):
 WAYS = {
     "": lambda path: listing_text(run_job(compile_file(path))),
     "--figures": lambda path: answer_text(run_job(compile_file(path))),
-    "--listing": lambda path: printed("listing", fmt.job_bytes(compile_file(path))),
+    "--listing": lambda path: printed("listing", job_bytes(compile_file(path))),
     "--job": of_job,
 }
 

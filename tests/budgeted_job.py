@@ -5,7 +5,7 @@ writes it to standard output, `budgeted_job.py --write` to crates/budgeted/stdin
 
 from pathlib import Path
 
-from product import fmt
+import format as fmt
 from listing_job import longest_job
 from usage import give_input
 

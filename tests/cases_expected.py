@@ -9,7 +9,7 @@ line `changed` after an answer where some word of a lent buffer isn't what the p
 from pathlib import Path
 
 import evaluator
-from product import fmt
+import format as fmt
 from usage import help_first
 
 STDIN = Path(__file__).resolve().parent.parent / "crates" / "cases" / "stdin"

@@ -13,7 +13,7 @@ from dataclasses import replace
 from pathlib import Path
 
 import damage
-from product import fmt
+import format as fmt
 import generate
 import limits
 from draw import Draw

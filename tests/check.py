@@ -11,7 +11,7 @@ from pathlib import Path as FilePath
 import edges
 import edits
 import evaluator
-from product import fmt
+import format as fmt
 import generate
 import limits
 import notation

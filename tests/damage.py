@@ -4,7 +4,7 @@ A fault is a function of a source of choices and a draft. It changes the draft a
 returns False where the draft has no place for it. A fault by itself brings its number; of several the lowest is meant.
 """
 
-from product import fmt
+import format as fmt
 
 ABSENT_NUMBERS = [16, 17, 255, 256, -1, 2**63 - 1, -2**63]
 FAR_CONSTANTS = [10**15 + 1, -10**15 - 1, 2**63 - 1, -2**63]

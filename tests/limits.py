@@ -1,6 +1,6 @@
 """Jobs at each limit of the paper and one past it: (what, job, the number meant)."""
 
-from product import fmt
+import format as fmt
 
 LARGEST = 1_000_000
 FURTHEST = 10**15

@@ -6,7 +6,7 @@ it to standard output, `listing_job.py --write` to crates/listing/stdin.
 from pathlib import Path
 
 import edges
-from product import fmt
+import format as fmt
 from usage import give_input
 
 STDIN = Path(__file__).resolve().parent.parent / "crates" / "listing" / "stdin"

@@ -10,7 +10,7 @@ from pathlib import Path
 
 import edges
 import evaluator
-from product import fmt
+import format as fmt
 import limits
 from listing_job import longest_job
 from usage import give_input

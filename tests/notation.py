@@ -32,16 +32,19 @@ Command line: `notation.py compile FILE > job`, `notation.py show < job`.
 
 import sys
 
-from product import NotationError, Parser, exact_job, fmt
-from show import NotExpressible, show
+import format as fmt
+from text.lines import NotationError
+from text.names import build
+from text.parser import Parser
+from text.show import NotExpressible, show
 from usage import help_first
 
 __all__ = ["NotationError", "NotExpressible", "compile_text", "show"]
 
 
 def compile_text(text):
-    """The job that a text in the notation stands for, with all its tables as they are written."""
-    return exact_job(Parser(text))
+    """The job that a text in the notation stands for."""
+    return build(Parser(text))
 
 
 def compile_file(path):

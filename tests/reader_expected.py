@@ -9,7 +9,7 @@ Prints the whole expected output; `python3 tests/reader_expected.py > crates/rea
 from pathlib import Path
 
 import evaluator
-from product import fmt
+import format as fmt
 import limits
 from usage import help_first
 

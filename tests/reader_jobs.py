@@ -10,7 +10,7 @@ small: the whole is about a megabyte.
 from pathlib import Path
 
 import damage
-from product import fmt
+import format as fmt
 import generate
 import limits
 import notation

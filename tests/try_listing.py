@@ -17,9 +17,9 @@ from pathlib import Path
 
 import edges
 import evaluator
-from product import fmt
+import format as fmt
 import generate
-from product import printed
+from built import printed
 from naive.matching import Matching
 from naive.plan import read_plan
 from naive.question import read_question

@@ -1,6 +1,6 @@
 /* Job J of the scope paper from C: which pans there are, and the average Brix of each pan's samples. The question and the
  * plan are put together record by record, the answer is printed as the program `listing` prints it. Then the rows' order
- * and words by every path, three refusals, an index, the chart of the operators, and NULL for slices of length 0. */
+ * and words by every path, three refusals, an index, and the chart of the operators. */
 #include <inttypes.h>
 #include <stdio.h>
 #include <string.h>
@@ -23,10 +23,10 @@ static void element(unsigned kind, uint64_t argument) {
     byte(kind);
     for (int i = 0; i < 8; i++) byte((argument >> (8 * i)) & 255);
 }
-static void variable(unsigned v) { element(ABE_KIND_VARIABLE, v); }
-static void fixed(unsigned v) { element(ABE_KIND_FIXED, v); }
+static void variable(unsigned v) { element(2, v); }
+static void fixed(unsigned v) { element(3, v); }
 static void aggregate(unsigned function, unsigned block, unsigned column) {
-    element(ABE_KIND_AGGREGATE, function | (uint64_t)block << 8 | (uint64_t)column << 16);
+    element(4, function | (uint64_t)block << 8 | (uint64_t)column << 16);
 }
 
 static void block(unsigned parent) { mark("BK"); byte(parent); }
@@ -34,17 +34,10 @@ static void relation_row(unsigned table, unsigned entries) { mark("RW"); byte(ta
 static void output_list(unsigned columns) { mark("OL"); byte(columns); }
 static void path(unsigned way, unsigned column) { mark("PL"); byte(way); byte(column); }
 
-/* Two tables: pan (one column, four rows); sample, pan, tenths of Brix (three columns, four rows). */
-static const int32_t words[] = {2, 1, 4, 3, 4,
-                                1, 2, 3, 2,
-                                11, 1, 910, 12, 1, 913, 13, 2, 905, 14, 2, 905};
-static const size_t words_len = sizeof words / sizeof words[0];
-static const uint64_t budget = 1000000000;
-
 /* One run on the buffers above, of which the sets are lent with a length of the caller's choice. */
-static unsigned run(const uint8_t *question, size_t question_len, const uint8_t *plan, size_t plan_len,
-                    uint64_t trials, size_t sets_len) {
-    return abe_run(words, words_len, question, question_len, plan, plan_len, trials, sets, sets_len,
+static unsigned run(const int32_t *words, size_t words_len, const uint8_t *question, size_t question_len,
+                    const uint8_t *plan, size_t plan_len, uint64_t budget, size_t sets_len) {
+    return abe_run(words, words_len, question, question_len, plan, plan_len, budget, sets, sets_len,
                    files, ABE_FILES_WORDS, indexes, ABE_INDEXES_WORDS, result, ABE_RESULT_WORDS,
                    figures, ABE_FIGURES_WORDS);
 }
@@ -101,9 +94,9 @@ static size_t question_j(uint8_t *question, int average_first) {
     relation_row(0, 1), variable(0);
     output_list(2);
     if (average_first)
-        aggregate(ABE_FUNCTION_AVE, 1, 1), variable(0);
+        aggregate(4, 1, 1), variable(0);
     else
-        variable(0), aggregate(ABE_FUNCTION_AVE, 1, 1);
+        variable(0), aggregate(4, 1, 1);
     block(0);
     relation_row(1, 3), variable(1), fixed(0), variable(2);
     output_list(2), variable(1), variable(2);
@@ -115,7 +108,7 @@ static size_t question_j(uint8_t *question, int average_first) {
 /* A plan of file for block 0 and a path for block 1; gives its length. */
 static size_t plan_j(uint8_t *plan, unsigned way, unsigned column) {
     used = 0;
-    path(ABE_PATH_FILE, 0), path(way, column);
+    path(0, 0), path(way, column);
     memcpy(plan, bytes, used);
     return used;
 }
@@ -185,89 +178,45 @@ static void print_chart_refusals(void) {
     printf("met %s\n", met_kept ? "kept" : "CHANGED");
 }
 
-/* The eight slices of abe_run, and buffers of their own for them. */
-static const char *const slices[] = {"words", "question", "plan", "sets", "files", "indexes", "result", "figures"};
-struct lent {
-    int64_t sets[ABE_SETS_WORDS], files[ABE_FILES_WORDS], result[ABE_RESULT_WORDS];
-    uint64_t figures[ABE_FIGURES_WORDS];
-    uint16_t indexes[ABE_INDEXES_WORDS];
-};
-
-/* Job J on filled buffers, the slices whose bits are set having the length 0: by their pointers, or by NULL. */
-static unsigned run_without(struct lent *b, unsigned without, int null) {
-    uint8_t question[256], plan[8];
-    const size_t question_len = question_j(question, 0), plan_len = plan_j(plan, ABE_PATH_MERGING, 1);
-    memset(b, 1, sizeof *b);
-#define SLICE(n, pointer, length) without >> n & 1 && null ? NULL : (pointer), without >> n & 1 ? 0 : (size_t)(length)
-    return abe_run(SLICE(0, words, words_len), SLICE(1, question, question_len), SLICE(2, plan, plan_len), budget,
-                   SLICE(3, b->sets, ABE_SETS_WORDS), SLICE(4, b->files, ABE_FILES_WORDS),
-                   SLICE(5, b->indexes, ABE_INDEXES_WORDS), SLICE(6, b->result, ABE_RESULT_WORDS),
-                   SLICE(7, b->figures, ABE_FIGURES_WORDS));
-#undef SLICE
-}
-
-/* Every choice of the slices by NULL and by pointers: the same number, and the same words in all buffers. */
-static void print_null_run(void) {
-    static struct lent by_null, by_pointer;
-    int same = 1;
-    printf("NULL and 0:");
-    for (unsigned i = 0; i < 8; i++) printf(" %s %u", slices[i], run_without(&by_null, 1u << i, 1));
-    putchar('\n');
-    for (unsigned without = 0; without < 256; without++) {
-        const unsigned number = run_without(&by_pointer, without, 0);
-        same &= run_without(&by_null, without, 1) == number && (number == ABE_OK) == (without == 0);
-        same &= memcmp(&by_null, &by_pointer, sizeof by_null) == 0;
-    }
-    printf("NULL and 0: 256 runs %s with pointers\n", same ? "as" : "NOT AS");
-}
-
-/* The same of the index and the chart. The index of a table without rows asks for no word. */
-static void print_null_others(void) {
-    static const int32_t no_rows[] = {1, 1, 0};
-    uint16_t out[2] = {7, 8};
-    const unsigned no_words = abe_index(NULL, 0, 1, 2, out, 2), no_out = abe_index(words, words_len, 1, 2, NULL, 0);
-    const unsigned neither = abe_index(NULL, 0, 1, 2, NULL, 0), nothing = abe_index(no_rows, 3, 0, 0, NULL, 0);
-    printf("NULL and 0 for abe_index: words %u, out %u, both %u, out and no rows %u; out %s\n",
-           no_words, no_out, neither, nothing, out[0] == 7 && out[1] == 8 ? "kept" : "CHANGED");
-    printf("NULL and 0 for abe_chart: met %u, met and no operator %u\n",
-           (unsigned)abe_chart(ABE_OPERATOR_EQUAL, ABE_RELATION_EQUAL, NULL, 0), (unsigned)abe_chart(6, 4, NULL, 0));
-}
-
-/* By every path, over a result whose rows were wiped out: the same words again. Then refusals: the result is kept. */
-static void print_paths_and_refusals(uint8_t *question, size_t question_len) {
-    int64_t before[ABE_RESULT_WORDS];
-    uint8_t plan[8];
-    size_t plan_len = 0;
-    memcpy(before, result, sizeof before);
-    for (unsigned way = ABE_PATH_FILE; way <= ABE_PATH_MERGING; way++) {
-        memset(result, 1, 12 * sizeof result[0]);
-        plan_len = plan_j(plan, way, way == ABE_PATH_FILE ? 0 : 1);
-        run(question, question_len, plan, plan_len, budget, ABE_SETS_WORDS);
-        printf("path %u: %" PRIu64 " trials, %s words\n", way, figures[ABE_TRIALS],
-               memcmp(before, result, sizeof before) == 0 ? "the same" : "OTHER");
-    }
-    printf("sets one word short: ");
-    print_answer(run(question, question_len, plan, plan_len, budget, ABE_SETS_WORDS - 1));
-    printf("a mark damaged: ");
-    question[0] ^= 1;
-    print_answer(run(question, question_len, plan, plan_len, budget, ABE_SETS_WORDS));
-    question[0] ^= 1;
-    printf("budget 7: ");
-    print_answer(run(question, question_len, plan, plan_len, 7, ABE_SETS_WORDS));
-    printf("result %s\n", memcmp(before, result, sizeof before) == 0 ? "kept" : "CHANGED");
-}
-
 int main(void) {
+    /* Two tables: pan (one column, four rows); sample, pan, tenths of Brix (three columns, four rows). */
+    static const int32_t words[] = {2, 1, 4, 3, 4,
+                                    1, 2, 3, 2,
+                                    11, 1, 910, 12, 1, 913, 13, 2, 905, 14, 2, 905};
+    const size_t words_len = sizeof words / sizeof words[0];
+    const uint64_t budget = 1000000000;
+
     uint8_t question[256], plan[8];
     const size_t question_len = question_j(question, 0), plan_len = plan_j(plan, ABE_PATH_MERGING, 1);
-    print_answer(run(question, question_len, plan, plan_len, budget, ABE_SETS_WORDS));
+    print_answer(run(words, words_len, question, question_len, plan, plan_len, budget, ABE_SETS_WORDS));
 
     /* The rows ascend by exact value, first column first: absent first, and 905 before 1823/2. */
     printf("average first: ");
     question_j(question, 1);
-    print_answer(run(question, question_len, plan, plan_len, budget, ABE_SETS_WORDS));
+    print_answer(run(words, words_len, question, question_len, plan, plan_len, budget, ABE_SETS_WORDS));
     printf("rows %s\n", ascend() ? "ascend" : "DO NOT ASCEND");
-    print_paths_and_refusals(question, question_len);
+
+    /* By every path, over a result whose rows were wiped out: the same words again. */
+    int64_t before[ABE_RESULT_WORDS];
+    memcpy(before, result, sizeof before);
+    for (unsigned way = ABE_PATH_FILE; way <= ABE_PATH_MERGING; way++) {
+        memset(result, 1, 12 * sizeof result[0]);
+        plan_j(plan, way, way == ABE_PATH_FILE ? 0 : 1);
+        run(words, words_len, question, question_len, plan, plan_len, budget, ABE_SETS_WORDS);
+        printf("path %u: %" PRIu64 " trials, %s words\n", way, figures[ABE_TRIALS],
+               memcmp(before, result, sizeof before) == 0 ? "the same" : "OTHER");
+    }
+
+    /* Refusals: the result keeps its words. */
+    printf("sets one word short: ");
+    print_answer(run(words, words_len, question, question_len, plan, plan_len, budget, ABE_SETS_WORDS - 1));
+    printf("a mark damaged: ");
+    question[0] ^= 1;
+    print_answer(run(words, words_len, question, question_len, plan, plan_len, budget, ABE_SETS_WORDS));
+    question[0] ^= 1;
+    printf("budget 7: ");
+    print_answer(run(words, words_len, question, question_len, plan, plan_len, 7, ABE_SETS_WORDS));
+    printf("result %s\n", memcmp(before, result, sizeof before) == 0 ? "kept" : "CHANGED");
 
     uint16_t order[4];
     unsigned number = abe_index(words, words_len, 1, 2, order, 4);
@@ -277,7 +226,5 @@ int main(void) {
 
     print_chart();
     print_chart_refusals();
-    print_null_run();
-    print_null_others();
     return 0;
 }

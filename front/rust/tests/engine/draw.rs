@@ -1,6 +1,7 @@
-//! Random jobs from a small generator: mostly valid questions of 1 to 5 blocks over small tables, and admitted plans.
+//! Random jobs from a small generator: mostly valid questions of 1 to 5 blocks over small tables, admitted plans, damage.
+use crate::evaluator::{admitted, ratio, Block, Condition, Element, Relation};
 use crate::job::{data_words, plan_bytes, question_bytes, Job};
-use crate::question::{admitted, ratio, Block, Condition, Element, Element::*, Relation};
+use Element::*;
 
 /// xorshift64*.
 pub struct Random(u64);
@@ -49,153 +50,114 @@ fn constant(r: &mut Random) -> Element {
     })
 }
 
-/// Blocks under way that no number from 5 to 10 refuses, save now and then.
-struct Drawing<'a> {
-    tables: &'a [(usize, Vec<Vec<i32>>)],
-    wide: bool,
-    blocks: Vec<Block>,
-    levels: Vec<usize>,
-    /// The variables that no block has.
-    free: Vec<i64>,
-    /// How many aggregates name each block.
-    naming: [usize; 5],
-}
-
-impl Drawing<'_> {
-    fn any_free(&mut self, r: &mut Random) -> i64 {
-        self.free.swap_remove(r.below(self.free.len()))
-    }
-
-    /// The parent of the next block, whose level is noted.
-    fn parent(&mut self, r: &mut Random) -> u8 {
-        let at = self.blocks.len();
-        if at == 0 {
-            self.levels.push(1);
-            return 255;
-        }
-        let early: Vec<usize> = (0..at).filter(|b| self.levels[*b] < 4).collect();
-        let parent = if r.percent(60) { early[early.len() - 1] } else { r.pick(&early) };
-        self.levels.push(self.levels[parent] + 1);
-        parent as u8
-    }
-
-    /// The variables of a parent, its parent and so on.
-    fn outer(&self, parent: u8) -> Vec<i64> {
-        let mut found = Vec::new();
+/// Blocks that no number from 5 to 10 refuses, save now and then.
+fn blocks(r: &mut Random, tables: &[(usize, Vec<Vec<i32>>)], wide: bool) -> Vec<Block> {
+    let count = if wide { 1 + r.below(2) } else { r.pick(&[1, 2, 2, 2, 3, 3, 3, 4, 4, 5]) };
+    let mut blocks: Vec<Block> = Vec::new();
+    let mut levels = Vec::new();
+    let mut free: Vec<i64> = (0..16).collect();
+    for at in 0..count {
+        let (parent, level) = if at == 0 {
+            (255, 1)
+        } else {
+            let early: Vec<usize> = (0..at).filter(|b| levels[*b] < 4).collect();
+            let parent = if r.percent(60) { early[early.len() - 1] } else { r.pick(&early) };
+            (parent as u8, levels[parent] + 1)
+        };
+        levels.push(level);
+        let mut ancestor_variables = Vec::new();
         let mut up = parent;
         while up != 255 {
-            found.extend(variables(&self.blocks[up as usize]));
-            up = self.blocks[up as usize].parent;
+            ancestor_variables.extend(variables(&blocks[up as usize]));
+            up = blocks[up as usize].parent;
         }
-        found
-    }
-
-    fn entry(&mut self, r: &mut Random, all_empty: bool, own: &mut Vec<i64>, outer: &[i64]) -> Element {
-        let (kinds, again) = if self.wide { (5, 5) } else { (10, 30) };
-        match r.below(kinds) {
-            _ if all_empty => Empty,
-            0..=3 if self.free.is_empty() && own.is_empty() => Empty,
-            0..=3 if self.free.is_empty() || (!own.is_empty() && r.percent(again)) => Variable(r.pick(own)),
-            0..=3 => {
-                own.push(self.any_free(r));
-                Variable(own[own.len() - 1])
-            }
-            4 => Empty,
-            5 => constant(r),
-            _ if outer.is_empty() => constant(r),
-            _ => Fixed(r.pick(outer)),
-        }
-    }
-
-    /// The next block with its relation rows; conditions and output list come later.
-    fn relations(&mut self, r: &mut Random) {
-        let parent = self.parent(r);
-        let mut outer = self.outer(parent);
         // One variable from outside alone, as often as not: then merging is admitted.
-        if !outer.is_empty() && r.percent(50) {
-            outer = vec![r.pick(&outer)];
+        if !ancestor_variables.is_empty() && r.percent(50) {
+            ancestor_variables = vec![r.pick(&ancestor_variables)];
         }
         let mut own: Vec<i64> = Vec::new();
         let mut block = Block { parent, ..Block::default() };
-        for _ in 0..if self.wide { 2 } else { r.pick(&[0, 1, 1, 1, 1, 1, 2, 2, 3]) } {
-            let table = if self.wide { 0 } else { r.below(self.tables.len()) };
+        let relations = if wide { 2 } else { r.pick(&[0, 1, 1, 1, 1, 1, 2, 2, 3]) };
+        for _ in 0..relations {
+            let table = if wide { 0 } else { r.below(tables.len()) };
             let all_empty = r.percent(5);
-            let entries = (0..self.tables[table].0).map(|_| self.entry(r, all_empty, &mut own, &outer)).collect();
+            let entry = |r: &mut Random| match r.below(if wide { 5 } else { 10 }) {
+                _ if all_empty => Empty,
+                0..=3 if free.is_empty() || (!own.is_empty() && r.percent(if wide { 5 } else { 30 })) => {
+                    if own.is_empty() { Empty } else { Variable(r.pick(&own)) }
+                }
+                0..=3 => {
+                    let v = free.swap_remove(r.below(free.len()));
+                    own.push(v);
+                    Variable(v)
+                }
+                4 => Empty,
+                5 => constant(r),
+                _ if ancestor_variables.is_empty() => constant(r),
+                _ => Fixed(r.pick(&ancestor_variables)),
+            };
+            let mut entry = entry;
+            let entries = (0..tables[table].0).map(|_| entry(r)).collect();
             block.relations.push(Relation { table: table as u8, entries });
         }
-        self.blocks.push(block);
+        blocks.push(block);
     }
-
-    /// An aggregate of a child that fewer than three name.
-    fn aggregate(&mut self, r: &mut Random, at: usize) -> Option<Element> {
-        let child_of = |b: &usize| self.blocks[*b].parent as usize == at && self.naming[*b] < 3;
-        let open: Vec<usize> = (at + 1..self.blocks.len()).filter(child_of).collect();
-        if open.is_empty() {
-            return None;
+    // Conditions and output lists, the deepest first: an aggregate's column must be there.
+    let mut naming = [0; 5];
+    for at in (0..count).rev() {
+        let own = variables(&blocks[at]);
+        let mut outer = Vec::new();
+        let mut up = blocks[at].parent;
+        while up != 255 {
+            outer.extend(variables(&blocks[up as usize]));
+            up = blocks[up as usize].parent;
         }
-        let child = r.pick(&open);
-        self.naming[child] += 1;
-        let column = r.below(self.blocks[child].outputs.len());
-        let bad = ratio(&self.blocks, child, column) && !r.percent(3);
-        let function = if bad { r.pick(&[0, 2, 3]) } else { r.below(5) as u8 };
-        Some(Aggregate { function, block: child as u8, column: if function == 0 { 0 } else { column as u8 } })
-    }
-
-    fn outputs(&mut self, r: &mut Random, at: usize, own: &[i64]) -> Vec<Element> {
-        let mut outputs = Vec::new();
+        let children: Vec<usize> = (at + 1..count).filter(|b| blocks[*b].parent as usize == at).collect();
+        let mut aggregate = |r: &mut Random| -> Option<Element> {
+            let open: Vec<usize> = children.iter().copied().filter(|c| naming[*c] < 3).collect();
+            if open.is_empty() {
+                return None;
+            }
+            let child = r.pick(&open);
+            naming[child] += 1;
+            let column = r.below(blocks[child].outputs.len());
+            let bad = ratio(&blocks, child, column) && !r.percent(3);
+            let function = if bad { r.pick(&[0, 2, 3]) } else { r.below(5) as u8 };
+            Some(Aggregate { function, block: child as u8, column: if function == 0 { 0 } else { column as u8 } })
+        };
+        let (mut outputs, mut more) = (Vec::new(), None);
         for _ in 0..1 + r.below(3) {
-            let made = if own.is_empty() || r.percent(50) { self.aggregate(r, at) } else { None };
-            let variable = if own.is_empty() { None } else { Some(Variable(r.pick(own))) };
-            outputs.extend(made.or(variable));
+            let made = if own.is_empty() || r.percent(50) { aggregate(r) } else { None };
+            outputs.extend(made.or(if own.is_empty() { None } else { Some(Variable(r.pick(&own))) }));
         }
-        outputs
-    }
-
-    /// A relation row with one variable, for a block that has nothing to put out.
-    fn one_variable(&mut self, r: &mut Random) -> (Element, Relation) {
-        let v = if self.free.is_empty() || r.percent(3) { 0 } else { self.any_free(r) };
-        let table = r.below(self.tables.len());
-        let mut entries = vec![Empty; self.tables[table].0];
-        let column = r.below(entries.len());
-        entries[column] = Variable(v);
-        (Variable(v), Relation { table: table as u8, entries })
-    }
-
-    fn side(&mut self, r: &mut Random, at: usize, own: &[i64], outer: &[i64]) -> Element {
-        match r.below(4) {
-            0 if !own.is_empty() => Variable(r.pick(own)),
-            1 if !outer.is_empty() && r.percent(50) => Fixed(r.pick(outer)),
-            2 => self.aggregate(r, at).unwrap_or(Constant(1)),
-            _ => constant(r),
-        }
-    }
-
-    /// The conditions and the output list of a block; those of its children must be there.
-    fn conditions_and_outputs(&mut self, r: &mut Random, at: usize) {
-        let (own, outer) = (variables(&self.blocks[at]), self.outer(self.blocks[at].parent));
-        let mut outputs = self.outputs(r, at, &own);
         if outputs.is_empty() {
-            let (variable, relation) = self.one_variable(r);
-            outputs.push(variable);
-            self.blocks[at].relations.truncate(2);
-            self.blocks[at].relations.push(relation);
+            // Nothing to put out: a relation row more, with a variable.
+            let v = if free.is_empty() || r.percent(3) { 0 } else { free.swap_remove(r.below(free.len())) };
+            outputs.push(Variable(v));
+            let table = r.below(tables.len());
+            let mut entries = vec![Empty; tables[table].0];
+            let column = r.below(entries.len());
+            entries[column] = Variable(v);
+            more = Some(Relation { table: table as u8, entries });
         }
-        self.blocks[at].outputs = outputs;
+        let mut conditions = Vec::new();
         for _ in 0..r.pick(&[0, 0, 0, 1, 1, 2]) {
-            let operator = r.below(6) as u8;
-            let (left, right) = (self.side(r, at, &own, &outer), self.side(r, at, &own, &outer));
-            self.blocks[at].conditions.push(Condition { operator, left, right });
+            let mut side = |r: &mut Random| match r.below(4) {
+                0 if !own.is_empty() => Variable(r.pick(&own)),
+                1 if !outer.is_empty() && r.percent(50) => Fixed(r.pick(&outer)),
+                2 => aggregate(r).unwrap_or(Constant(1)),
+                _ => constant(r),
+            };
+            conditions.push(Condition { operator: r.below(6) as u8, left: side(r), right: side(r) });
         }
+        if more.is_some() {
+            blocks[at].relations.truncate(2);
+        }
+        blocks[at].relations.extend(more);
+        blocks[at].outputs = outputs;
+        blocks[at].conditions = conditions;
     }
-}
-
-fn blocks(r: &mut Random, tables: &[(usize, Vec<Vec<i32>>)], wide: bool) -> Vec<Block> {
-    let count = if wide { 1 + r.below(2) } else { r.pick(&[1, 2, 2, 2, 3, 3, 3, 4, 4, 5]) };
-    let free = (0..16).collect();
-    let mut drawing = Drawing { tables, wide, blocks: vec![], levels: vec![], free, naming: [0; 5] };
-    (0..count).for_each(|_| drawing.relations(r));
-    (0..count).rev().for_each(|at| drawing.conditions_and_outputs(r, at));
-    drawing.blocks
+    blocks
 }
 
 fn variables(block: &Block) -> Vec<i64> {
@@ -229,4 +191,136 @@ pub fn job(r: &mut Random) -> (Job, Vec<Block>) {
     let blocks = blocks(r, &tables, wide);
     let job = Job { data: data_words(&tables), question: question_bytes(&blocks), plan: plan(r, &blocks) };
     (job, blocks)
+}
+
+/// One change of some bytes: a byte replaced or nudged, one taken out, put in, or the end cut.
+fn damage_bytes(r: &mut Random, bytes: &mut Vec<u8>) {
+    if bytes.is_empty() {
+        bytes.push(r.next() as u8);
+        return;
+    }
+    let at = r.below(bytes.len());
+    match r.below(12) {
+        0 => bytes.truncate(at),
+        1 => bytes.insert(at, r.next() as u8),
+        2 => drop(bytes.remove(at)),
+        3..=5 => bytes[at] = r.next() as u8,
+        6..=8 => bytes[at] = r.below(6) as u8,
+        9 => bytes[at] ^= 1 << r.below(8),
+        _ => bytes[at] = bytes[at].wrapping_add(r.pick(&[1, 255])),
+    }
+}
+
+fn damage_words(r: &mut Random, words: &mut Vec<i32>) {
+    let at = r.below(words.len());
+    match r.below(6) {
+        0 => words.truncate(at),
+        1 => words.push(0),
+        2 => words[at] = r.pick(&[1_000_001, -1_000_001, i32::MAX, i32::MIN, 257, 9, -1]),
+        3 => {
+            let front = r.below(words.len().min(7));
+            words[front] += r.pick(&[1, -1]);
+        }
+        _ => words[at] = r.below(4) as i32,
+    }
+}
+
+pub fn damage(r: &mut Random, job: &mut Job) {
+    match r.below(10) {
+        0..=6 => (0..1 + r.below(3)).for_each(|_| damage_bytes(r, &mut job.question)),
+        7 | 8 => damage_bytes(r, &mut job.plan),
+        _ => damage_words(r, &mut job.data),
+    }
+}
+
+/// One change of the blocks themselves: a count brought to its limit or past it, or something absent, out of scope, of the
+/// wrong kind or out of range put in.
+pub fn alter(r: &mut Random, blocks: &mut Vec<Block>) {
+    let count = blocks.len();
+    let at = r.below(count);
+    let over = r.below(2);
+    let any = |r: &mut Random| match r.below(5) {
+        0 => Constant(r.pick(&[1, 0, 1_000_000_000_000_000, 1_000_000_000_000_001, -1_000_000_000_000_001, i64::MIN])),
+        1 => Variable(r.pick(&[0, 1, 2, 5, 15, 16, -1, 256])),
+        2 => Fixed(r.pick(&[0, 1, 2, 5, 15, 16, -1, 256])),
+        _ => {
+            let function = r.below(5) as u8;
+            let column = if function == 0 { 0 } else { r.below(3) as u8 };
+            Aggregate { function, block: r.below(count + 1) as u8, column }
+        }
+    };
+    let block = &mut blocks[at];
+    match r.below(12) {
+        0 if !block.relations.is_empty() => {
+            while block.relations.len() < 3 + over {
+                block.relations.push(block.relations[0].clone());
+            }
+        }
+        1 => {
+            while block.conditions.len() < 8 + over {
+                let value = block.conditions.first().map_or(Constant(1), |c| c.left);
+                block.conditions.push(Condition { operator: r.below(6) as u8, left: value, right: Constant(2) });
+            }
+        }
+        2 if !block.outputs.is_empty() => {
+            while block.outputs.len() < 4 + over {
+                block.outputs.push(block.outputs[0]);
+            }
+        }
+        3 => block.outputs.clear(),
+        4 => {
+            let named = Aggregate { function: 0, block: r.pick(&[1, 1, 2, 77]), column: 0 };
+            block.conditions = vec![Condition { operator: 5, left: named, right: named }];
+            if over == 1 {
+                block.outputs.extend([named, named]);
+            }
+        }
+        5 => {
+            let mut more = blocks[at].clone();
+            more.parent = r.pick(&[0, 1, at as u8, count as u8, 255]);
+            more.relations.clear();
+            more.conditions.clear();
+            more.outputs = vec![any(r)];
+            if !matches!(more.outputs[0], Variable(_) | Aggregate { .. }) {
+                more.outputs = vec![Variable(0)];
+            }
+            blocks.push(more);
+        }
+        6 => block.parent = r.pick(&[0, 1, 2, 3, 255]),
+        7 | 8 if !block.relations.is_empty() => {
+            let which = r.below(block.relations.len());
+            let relation = &mut block.relations[which];
+            match r.below(5) {
+                0 => relation.table = r.pick(&[0, 1, 2, 3, 8, 255]),
+                1 => drop(relation.entries.pop()),
+                2 => relation.entries.push(Empty),
+                _ => {
+                    let new = any(r);
+                    let column = r.below(relation.entries.len().max(1));
+                    if let (Some(e), false) = (relation.entries.get_mut(column), matches!(new, Aggregate { .. })) {
+                        *e = new;
+                    }
+                }
+            }
+        }
+        9 => {
+            let column = r.below(block.outputs.len().max(1));
+            let new = any(r);
+            if let (Some(e), Variable(_) | Aggregate { .. }) = (block.outputs.get_mut(column), new) {
+                *e = new;
+            }
+        }
+        10 => {
+            // An average of a column, which may be one of averages itself.
+            let function = r.pick(&[1, 4]);
+            let child = blocks.iter().rposition(|b| b.parent != 255).unwrap_or(0);
+            let parent = (blocks[child].parent as usize).min(count - 1);
+            blocks[parent].outputs = vec![Aggregate { function, block: child as u8, column: 0 }];
+        }
+        _ => {
+            let (left, right) = (any(r), any(r));
+            block.conditions.truncate(7);
+            block.conditions.push(Condition { operator: r.below(6) as u8, left, right });
+        }
+    }
 }

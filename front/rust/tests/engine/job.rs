@@ -1,5 +1,6 @@
 //! Questions and plans written as bytes, and job J.
-use crate::question::{Block, Condition, Element, Element::*, Relation};
+use crate::evaluator::{Block, Condition, Element, Relation};
+use Element::*;
 
 #[derive(Clone)]
 pub struct Job {

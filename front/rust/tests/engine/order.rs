@@ -1,9 +1,6 @@
 //! Requests No. 2 and 3 over the words of a result, as a program reads them.
+use abe::absent;
 use std::cmp::Ordering;
-
-fn absent(value: (i64, i64)) -> bool {
-    value == (0, 0)
-}
 
 /// The value in row r, column c of n columns: numerator and denominator.
 fn value(words: &[i64], n: usize, r: usize, c: usize) -> (i64, i64) {
@@ -11,9 +8,9 @@ fn value(words: &[i64], n: usize, r: usize, c: usize) -> (i64, i64) {
     (words[at], words[at + 1])
 }
 
-/// The order of two values: absent before every other, and else by cross products. These are below 2^52 in size: no
-/// numerator passes 16,777,216,000,000 and no denominator 256.
-pub fn order(x: (i64, i64), y: (i64, i64)) -> Ordering {
+/// The order of two values: absent before every other, and else by cross products. These are below 2^52 in size: no numerator
+/// passes 16,777,216,000,000 and no denominator 256.
+fn order(x: (i64, i64), y: (i64, i64)) -> Ordering {
     if absent(x) || absent(y) {
         return absent(y).cmp(&absent(x));
     }

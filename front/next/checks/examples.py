@@ -1,7 +1,7 @@
-"""The questions under front/examples: the rows are those that SQLite gives (by_sql.py), the table printed is the one stored
-beside the question, and the documents show them as they are.
+"""The questions under front/next/examples: the rows are those that SQLite gives (by_sql.py), the table printed is the one stored
+beside the question, and README.md shows the first as it is.
 
-`python3 front/test.py examples --write` is not there on purpose: an answer is stored by hand, `abe ask .. > NAME.out`, once
+`python3 front/next/test.py examples --write` is not there on purpose: an answer is stored by hand, `abe ask .. > NAME.out`, once
 SQLite has confirmed its rows.
 """
 
@@ -54,9 +54,8 @@ def first_example():
     status, out, err = program(*asked, folder=EXAMPLES)
     check("example brix by the program", (status, out) == (0, expected), err.splitlines()[-1] if err else "")
     question = (EXAMPLES / "brix.abe").read_text().split("\n", 2)[2]
-    for document in (FRONT / "README.md", FRONT.parent / "README.md"):
-        check(f"example as {document.relative_to(FRONT.parent)} shows it", shown_in(document, question)
-              and shown_in(document, out + err))
+    check("example as README.md shows it", shown_in(FRONT / "README.md", question)
+          and shown_in(FRONT / "README.md", out + err))
 
 
 def run():

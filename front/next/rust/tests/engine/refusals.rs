@@ -1,8 +1,8 @@
-//! The names of the numbers, beside the header for C and the table of section 5 of docs/FORMATS.md.
+//! The names of the numbers, beside the header for C and the table of front/next/numbers.md.
 use abe::Refusal;
 
-const HEADER: &str = include_str!("../../../../include/abe.h");
-const FORMATS: &str = include_str!("../../../../docs/FORMATS.md");
+const HEADER: &str = include_str!("../../../abe.h");
+const FORMATS: &str = include_str!("../../../numbers.md");
 const TRIALS: u64 = 20;
 
 /// Every number with its constant in C, beginning with 1.

@@ -1,7 +1,7 @@
-"""The answers to the questions under front/examples, worked out by SQLite.
+"""The answers to the questions under front/next/examples, worked out by SQLite.
 
 Beside each question NAME.abe stands a statement NAME.sql that was written by hand in the manner of SQL. `answers()` runs it
-over the question's tables and gives the rows that the command must print. Nothing of front/command is used here: the files
+over the question's tables and gives the rows that the command must print. Nothing of front/next/command is used here: the files
 are read by Python's csv module, and the table FILES says by hand how each file is split and what its columns hold.
 
 A question's head has a line on how it is asked in its folder, a file of standard input behind `<`:
@@ -23,7 +23,7 @@ A statement's first line says how the columns of its result are to be read, one 
 NULL is an absent value, and so is a ratio whose denominator is 0. An answer is a set of rows: equal rows stand once. The
 rows ascend, first column first, absent first, numbers by exact value, texts by code point.
 
-`python3 front/checks/by_sql.py` prints every question with its rows.
+`python3 front/next/checks/by_sql.py` prints every question with its rows.
 """
 
 import csv
@@ -157,7 +157,7 @@ def answer(question):
 
 
 def answers():
-    """Every question under front/examples with its answer."""
+    """Every question under front/next/examples with its answer."""
     for question in sorted(EXAMPLES.rglob("*.abe")):
         yield answer(question)
 

@@ -1,7 +1,7 @@
 """The way back: a job shown in the notation, with names invented (t0, c0, b0, v0), so that it compiles to the same
 bytes. It shows every question free of causes 3, 5 and 7, and every plan."""
 
-from product import fmt
+import format as fmt
 from naive.checks import something_absent
 from naive.matching import live
 from naive.plan import FILE, read_plan

@@ -1,6 +1,6 @@
 """Damaged questions and tables, fed to the command: no input may bring a traceback.
 
-`damaged(count, seed)` makes so many runs. A run takes a question of front/examples or tests/questions with its tables,
+`damaged(count, seed)` makes so many runs. A run takes a question of front/next/examples or tests/questions with its tables,
 damages one or more of the files, and gives them to ask, explain, check or the prompt, in this process. Most damages are
 small, so that many files stay nearly right. What must hold of every run:
 
@@ -10,8 +10,8 @@ small, so that many files stay nearly right. What must hold of every run:
 - under status 0 of explain its plans, and of check no word on standard output;
 - a refusal by a number from 4 on names its line.
 
-A run depends on seed and number alone. `python3 front/checks/damaged.py [COUNT SEED]` prints the counts and the failures,
-`python3 front/checks/damaged.py run SEED NUMBER FOLDER` leaves the files of one run in a new folder and says how it is asked.
+A run depends on seed and number alone. `python3 front/next/checks/damaged.py [COUNT SEED]` prints the counts and the failures,
+`python3 front/next/checks/damaged.py run SEED NUMBER FOLDER` leaves the files of one run in a new folder and says how it is asked.
 """
 
 import contextlib
@@ -38,7 +38,7 @@ if __name__ == "__main__":
 from checks.by_sql import asked                     # noqa: E402
 from command import main, program                   # noqa: E402
 
-EXAMPLES, QUESTIONS = FRONT / "examples", FRONT.parent / "tests" / "questions"
+EXAMPLES, QUESTIONS = FRONT / "examples", FRONT.parent.parent / "tests" / "questions"
 COUNT, SEED = 2_000, 1
 LONGEST_SECONDS = 10            # of a run, and of one call of the program
 BUDGET = 5_000                  # of most questions, so that none takes long
@@ -100,7 +100,7 @@ class Failure:
     detail: str = field(default="", repr=False)
 
     def __str__(self):
-        return (f"run {self.number}: abe {shlex.join(self.arguments)}: {self.what}\n  repeat: python3 front/checks/damaged.py run "
+        return (f"run {self.number}: abe {shlex.join(self.arguments)}: {self.what}\n  repeat: python3 front/next/checks/damaged.py run "
                 f"{self.seed} {self.number} FOLDER\n" + "".join(f"    {line}\n" for line in self.detail.splitlines()[-12:]))
 
 

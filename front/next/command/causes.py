@@ -239,7 +239,7 @@ def fixed_fault(question, number, element, around):
 
 def instead(name, known):
     """The name that may be meant, or those that there are."""
-    return close(name, known) or (f": there {"stands" if len(known) == 1 else "stand"} {joined(known)}" if known else "")
+    return close(name, known) or (f": there {'stands' if len(known) == 1 else 'stand'} {joined(known)}" if known else "")
 
 
 def sum_of_a_ratio(question):

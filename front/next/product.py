@@ -1,4 +1,4 @@
-"""What the tests take from the product, front/: the bytes of jobs, the notation, and the built programs.
+"""What the tests would take from the product, front/next: the bytes of jobs, the notation, and the built programs.
 
 The evaluator under naive/ takes nothing from here.
 """
@@ -6,7 +6,7 @@ The evaluator under naive/ takes nothing from here.
 import sys
 from pathlib import Path
 
-sys.path.append(str(Path(__file__).resolve().parent.parent / "front"))
+sys.path.append(str(Path(__file__).resolve().parent))
 
 from command.program import printed                 # noqa: E402
 from text import format as fmt                      # noqa: E402

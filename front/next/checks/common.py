@@ -9,7 +9,7 @@ import tempfile
 from pathlib import Path
 
 FRONT = Path(__file__).resolve().parent.parent
-TESTS = FRONT.parent / "tests"
+TESTS = FRONT.parent.parent / "tests"
 EXAMPLES = FRONT / "examples"
 
 from command.main import main       # noqa: E402

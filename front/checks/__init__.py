@@ -1,1 +1,0 @@
-"""The front end's tests, by subject; front/test.py runs them all."""

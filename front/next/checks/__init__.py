@@ -1,0 +1,1 @@
+"""The front end's tests, by subject; front/next/test.py runs them all."""
