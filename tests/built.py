@@ -91,7 +91,7 @@ def build_over_ci(newest):
     place_of(ARCHIVE).parent.mkdir(exist_ok=True)
     done = subprocess.run(words, cwd=CRATES / ARCHIVE, stdin=subprocess.DEVNULL, stdout=subprocess.PIPE,
                           stderr=subprocess.STDOUT, text=True)
-    return done.returncode == 0
+    return done.returncode == 0 and "logic=proved" in done.stdout
 
 
 @cache

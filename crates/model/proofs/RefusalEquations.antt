@@ -1,4 +1,4 @@
--- The equations of specs/Refusal, one for each case; of a cause in front: RefusalLaws, `IsFirst-passes`, `first_stops`.
+-- The equations of specs/Refusal, one for each case; of a cause in front: RefusalLaws, `first_passes`, `first_stops`.
 use Prim.Native.Nat.{ℕ, suc, ◌<◌}
 use native.Mathlib.Omega.{arith}
 use mathlib.Core.Bool.{Bool, true, false, ◌&&◌}

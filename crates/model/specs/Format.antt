@@ -1,7 +1,7 @@
 -- The elements and records of a question, parsed from bytes (01, "The question"; cause 5). A parser gives `none`
 -- where the bytes are malformed. Counts are read as they stand: the limits are cause 6, what they refer to cause 7.
 --   Parser A           takes bytes from the front: a value and the bytes after it, or none
---   _>>=_              one parser after the other; after: the same where the first has run
+--   ◌>>=◌              one parser after the other; after: the same where the first has run
 --   give, fail, only   a value of no bytes; none; a value where a test holds
 --   times n p          p n times over
 --   byte, eight        one byte; eight bytes

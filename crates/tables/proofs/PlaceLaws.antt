@@ -1,5 +1,5 @@
 -- The place of a table: its sum, kept within the slice, reads the same words.
---   first-begin, first_next, first-end   the loop that adds up the tables
+--   first-begin, first_next, first-within   the loop that adds up the tables
 --   beyond                               a place past the end reads 0
 --   value_cell                           a value in a column is the model's cell
 use Prim.Native.Nat.{ℕ, suc, ◌+◌, ◌*◌, ◌<◌, ◌≤◌, min}

@@ -48,7 +48,7 @@ returns c e =
     (c.if-not-is_short.false) in
     plain-greater x y c.requires
     (record {
-      whole = bits_one y.den (search rules) c.if-y-ne1.false;
+      whole = bits_one c.args.y.den (search rules) c.if-y-ne1.false;
       small = subst (λ z. nat_abs z ≤ 1000000000000000) right small;
     })
     (sym (ap₂ lt_z left right) ∙ c.if-x-y-2.false) (λ q. c.if-x-y.false (ap (of_z w64) q))
