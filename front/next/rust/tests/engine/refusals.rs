@@ -1,7 +1,7 @@
 //! The names of the numbers, beside the header for C and the table of front/next/numbers.md.
 use abe::Refusal;
 
-const HEADER: &str = include_str!("../../../abe.h");
+const HEADER: &str = include_str!("../../../../../include/abe.h");
 const FORMATS: &str = include_str!("../../../numbers.md");
 const TRIALS: u64 = 20;
 
