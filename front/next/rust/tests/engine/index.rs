@@ -1,7 +1,7 @@
 //! The index of a column beside the evaluator's, and every word of `out` after each call.
 use crate::calls::count_from;
 use crate::draw::{self, Random};
-use crate::{alter, evaluator};
+use crate::evaluator;
 
 /// A call of both `index` and the raw one, over the same words before: they agree, and `out` is as wanted. Gives the number.
 fn check(data: &[i32], table: u32, column: u32, before: &[u16]) -> u8 {
@@ -29,7 +29,7 @@ fn indexes() {
     for _ in 0..4000 {
         let (mut job, _) = draw::job(&mut r);
         if r.percent(15) {
-            alter::damage(&mut r, &mut job);
+            draw::damage(&mut r, &mut job);
         }
         if r.percent(10) {
             let at = r.below(job.data.len().max(1));

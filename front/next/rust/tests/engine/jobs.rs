@@ -1,8 +1,7 @@
 //! Jobs of the scope paper and the requests, by every path.
 use crate::calls::{filled, run, run_on, Told, BUDGET};
-use crate::evaluator;
+use crate::evaluator::{self, Block, Condition, Element::*, Relation};
 use crate::job::{data_words, job_j, job_j_blocks, plan_bytes, question_bytes, Job};
-use crate::question::{Block, Condition, Element::*, Relation};
 use crate::random::PATIENCE;
 
 fn j_with(paths: [(u8, u8); 2]) -> Job {

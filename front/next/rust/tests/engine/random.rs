@@ -1,9 +1,8 @@
 //! Damaged bytes and random jobs, each beside the evaluator; random plans, each beside another.
 use crate::calls::{count_from, filled, run, run_on, BUDGET, SPARE};
-use crate::evaluator::{self, Expected};
+use crate::evaluator::{self, Block, Expected};
 use crate::job::{job_j, question_bytes, Job};
-use crate::question::Block;
-use crate::{alter, draw, draw::Random};
+use crate::{draw, draw::Random};
 use abe::{Buffers, RESULT_WORDS};
 
 /// Steps of the evaluator before it gives up.
@@ -129,10 +128,10 @@ fn random_jobs() {
             met.budgets_and_plans(&mut r, &mut job, &blocks, first, &what);
         }
         let mut damaged = job.clone();
-        alter::damage(&mut r, &mut damaged);
+        draw::damage(&mut r, &mut damaged);
         met.check(&damaged, BUDGET, &what);
         for _ in 0..1 + r.below(2) {
-            alter::alter(&mut r, &mut blocks);
+            draw::alter(&mut r, &mut blocks);
         }
         job.question = question_bytes(&blocks);
         met.check(&job, BUDGET, &what);
