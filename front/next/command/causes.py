@@ -2,37 +2,25 @@
 
 Each supposes that no lower number applies. 12 and 13 are found by running (answering.py); 5 cannot be written in the
 notation. PAPER has the paper's words for each number, for where no function finds the cause. From 4 on a cause begins with
-its line.
+its line. The names of things, PAPER and what needs no line are those of front/causes.py.
 """
+
+import sys
+from pathlib import Path
 
 from text import format as fmt
 from text.format import many
 from text.hints import close
 
 from .question import unit
-from .trees import (AVE, COUNT, SUM, aggregate_of, ancestors_of, elements_of, is_ratio, live_rows, of_kind, outside_of)
+from .trees import AVE, SUM, aggregate_of, ancestors_of, elements_of, is_ratio, live_rows, of_kind, outside_of
 
-PAPER = {
-    1: "work buffer short: 8,192 words for sets, 8,192 for aggregate files, 1,280 for indexes",
-    2: "result under 2,048 words",
-    3: "data counts, length or layout",
-    4: "data value out of range",
-    5: "question's records or their order, kinds, codes, argument bytes that must be 0, cut or tail",
-    6: "a count limit: blocks (none, or over five), relation rows, conditions, output columns (none, or over four), "
-       "aggregates",
-    7: "absent table, entry count not its columns, variable not 0 to 15, parent not an earlier block, fifth level, "
-       "aggregate not of a child, absent column",
-    8: "variable in two blocks, in a condition or the output list but in no relation row of its block, fixed variable "
-       "of no ancestor",
-    9: "sum or ave of a ratio column",
-    10: "constant beyond ±1,000,000,000,000,000",
-    11: "plan malformed or not admitted",
-    12: "trials exceed the budget",
-    13: "a set has over 256 rows",
-}
-FILE, INDEX, MERGING = range(3)
+sys.path.append(str(Path(__file__).resolve().parents[2]))
+
+from causes import (FILE, INDEX, LARGEST_CONSTANT, MERGING, PAPER, aggregate_fault, aggregate_text,     # noqa: E402, F401
+                    block_name, joined, question_malformed, result_short, variable_name, work_buffer_short)
+
 LARGEST_VALUE = 1_000_000
-LARGEST_CONSTANT = 1_000_000_000_000_000
 
 
 # How things are called.
@@ -42,49 +30,12 @@ def at(line, words):
     return f"line {line}: {words}" if line else words
 
 
-def block_name(question, number):
-    return f"block {question.block_names[number]}" if number < len(question.block_names) else f"block {number}"
-
-
-def variable_name(question, number):
-    return question.variable_names.get(number, f"v{number}")
-
-
 def column_name(question, table, column):
     columns = question.tables[table].columns
     return columns[column] if column < len(columns) else str(column)
 
 
-def aggregate_text(question, aggregate):
-    function, block, column = aggregate
-    name = question.block_names[block] if block < len(question.block_names) else str(block)
-    if function == COUNT:
-        return f"count({name})"
-    titles = question.titles[block] if block < len(question.titles) else []
-    return f"{fmt.FUNCTIONS[function]}({name}.{titles[column] if column < len(titles) else column})"
-
-
-def joined(names):
-    return " and ".join([", ".join(names[:-1]), names[-1]] if len(names) > 1 else names)
-
-
 # One function for each number.
-
-def work_buffer_short(question):
-    for place in (1, 2, 3):
-        if question.lengths[place] < fmt.BUFFER_WORDS[place]:
-            return lent(question, place)
-    return None
-
-
-def result_short(question):
-    return lent(question, 0) if question.lengths[0] < fmt.BUFFER_WORDS[0] else None
-
-
-def lent(question, place):
-    name, found, needed = fmt.BUFFER_NAMES[place], question.lengths[place], fmt.BUFFER_WORDS[place]
-    return f"{name} is lent {found:,} words, {needed:,} are needed"
-
 
 def data_badly_laid_out(question):
     if not 1 <= len(question.tables) <= 8:
@@ -114,10 +65,6 @@ def value_words(table, row, place, value):
     most = LARGEST_VALUE // 10**scale
     words = f"{table.columns[place]} is {written}, values run from -{most:,} to {most:,}"
     return f"{words} in {unit(scale)} ({table.finest[place]})" if scale else words
-
-
-def question_malformed(_):
-    return None
 
 
 def count_over_its_limit(question):
@@ -181,19 +128,6 @@ def elements_fault(question, number):
             fault = aggregate_fault(question, number, aggregate_of(element))
             if fault:
                 return at(element.line, f"{aggregate_text(question, aggregate_of(element))} in {name}: {fault}")
-    return None
-
-
-def aggregate_fault(question, number, aggregate):
-    function, child, column = aggregate
-    name = block_name(question, child)
-    if child >= len(question.blocks):
-        return f"there is no {name}"
-    if child == 0 or question.blocks[child].parent != number:
-        return f"{name} is no child of {block_name(question, number)}"
-    found = len(question.blocks[child].output)
-    if function != COUNT and column >= found:
-        return f"{name} gives {many(found, 'column')}, numbered from 0"
     return None
 
 
