@@ -36,7 +36,8 @@ if __name__ == "__main__":
     sys.path.insert(0, str(FRONT))
 
 from checks.by_sql import asked                     # noqa: E402
-from command import main, program                   # noqa: E402
+from command import main                            # noqa: E402
+import built                                        # noqa: E402, found by command
 
 EXAMPLES, QUESTIONS = FRONT / "examples", FRONT.parent.parent / "tests" / "questions"
 COUNT, SEED = 2_000, 1
@@ -488,14 +489,14 @@ def one(seed, number, all_sources):
 def damaged(count=COUNT, seed=SEED):
     """Makes runs 0 to count - 1; gives their number, how often each status was met by command, and the failures."""
     all_sources, met, failures = sources(), Counter(), []
-    longest, program.LONGEST_SECONDS = program.LONGEST_SECONDS, LONGEST_SECONDS
+    longest, built.LONGEST_SECONDS = built.LONGEST_SECONDS, LONGEST_SECONDS
     try:
         for number in range(count):
             status, failure = one(seed, number, all_sources)
             met[status] += 1
             failures += [failure] if failure else []
     finally:
-        program.LONGEST_SECONDS = longest
+        built.LONGEST_SECONDS = longest
     return count, met, failures
 
 
