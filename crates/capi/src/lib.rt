@@ -13,7 +13,7 @@ ghost use Rattle.model.specs.Lists.{overwrite};
 ghost use Rattle.capi.specs.Calls.{figures_in, given, relation_numbered, chart_number, chart_after};
 
 use chart::Relation;
-use model::Answer;
+use model::{Answer, Refusal};
 
 // The figures of an answer put into the first four words.
 fn put_figures(a: Answer, figures: &mut [u64])
@@ -82,13 +82,12 @@ pub extern "C" fn abe_index(words: &[i32], table: u32, column: u32, out: &mut [u
     ensures words { out.new ≡ index_after words.now table column out.old }
 {
     if (table < 256) & (column < 256) {
-        return indexes::index(words, table as u8, column as u8, out);
+        return model::number(indexes::index(words, table as u8, column as u8, out));
     }
-    let number = tables::check(words);
-    if number != 0 {
-        return number;
+    match tables::check(words) {
+        Ok(()) => Refusal::Absent.number(),
+        Err(refusal) => refusal.number(),
     }
-    7
 }
 
 // The relation of a number: 0 less, 1 equal, 2 greater, 3 and above absent.

@@ -3,6 +3,7 @@ pub mod Tests
 pub mod GcdLaws
 pub mod SetLaws
 pub mod ValueLaws
+pub mod NumberLaws
 pub mod OrderLaws
 pub mod AggregateLaws
 pub mod CanonLaws

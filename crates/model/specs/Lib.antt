@@ -14,6 +14,7 @@ pub mod Plan
 pub mod Trials
 pub mod Refusal
 pub mod Index
+pub mod Numbers
 pub mod Outcome
 pub mod Answer
 pub mod PlanAgreement

@@ -3,6 +3,7 @@ use Prim.Native.Nat.{ℕ, zero, suc, ◌+◌, ◌≤◌, ◌<◌}
 use native.Mathlib.Omega.{arith}
 use mathlib.Core.Bool.{Bool, true, false, ◌&&◌, cond}
 use mathlib.Core.List.{List, [], ◌∷◌}
+use Rattle.std.proofs.Common.{◌⊎◌, inl, inr, lit≤}
 use mathlib.Core.Path.{◌≡◌, refl, sym, ap, ap₂, ◌∙◌, subst}
 use lib.Dec.{T, eqb, leb}
 use lib.IntN.{ℤ}
@@ -148,6 +149,26 @@ module _ (d : List ℤ) (bs : List ℕ) where
           by-within k within refl ∙ ap (λ t. whole true t) (counts k) ∙ ap (λ t. whole t (counts_fit q)) (sym k)
       by-formed false h = sym (ap (λ t. whole t (counts_fit q)) (sym f ∙ h) ∙ first_stops 5 _)
 
+  -- the least cause is 11 or a number from 7 to 10
+  between : (a b c e : Bool)
+      → (first_of ((7, a) ∷ (8, b) ∷ (9, c) ∷ (10, e) ∷ []) ≡ 0)
+      ⊎ ((7 ≤ first_of ((7, a) ∷ (8, b) ∷ (9, c) ∷ (10, e) ∷ [])) × (first_of ((7, a) ∷ (8, b) ∷ (9, c) ∷ (10, e) ∷ []) ≤ 10))
+  unfolding first_of
+  between false b c e = inr (lit≤ tt, lit≤ tt)
+  between true false c e = inr (lit≤ tt, lit≤ tt)
+  between true true false e = inr (lit≤ tt, lit≤ tt)
+  between true true true false = inr (lit≤ tt, lit≤ tt)
+  between true true true true = inl refl
+
+  small : records.well_formed bs ≡ true → counts_fit (records.question_of bs) ≡ true
+      → (first_of (question_causes d bs) ≡ 0)
+      ⊎ ((7 ≤ first_of (question_causes d bs)) × (first_of (question_causes d bs) ≤ 10))
+  unfolding question_causes first_of
+  small a b = rw a (rw b (between _ _ _ _))
+
+  told : (m f : ℕ) → cond (eqb m 11) 0 m ≡ f → (f ≡ 0) ⊎ ((7 ≤ f) × (f ≤ 10)) → cond (leb 7 m && leb m 10) m 0 ≡ f
+  told m f e h = grind arith
+
   -- as the code comes to it
   pub count_small : (r : Question) (w : Bool) → r ≡ reading bs → w ≡ within_in bs r → w ≡ true → r.count ≤ 5
   count_small r w e f h = rw e (few-blocks (ap (within_in bs) (sym e) ∙ sym f ∙ h))
@@ -155,13 +176,17 @@ module _ (d : List ℤ) (bs : List ℕ) where
   pub number-least : (r : Question) (formed w : Bool) (n m x : ℕ) → r ≡ reading bs → formed ≡ records.well_formed bs
       → formed ≡ true
       → w ≡ within_in bs r → w ≡ true → n ≡ r.count
-      → m ≡ blocks_cause d bs r (mask_of (twice_below (blocks_in bs r) n)) n 0 11 → x ≡ cond (eqb m 11) 0 m
+      → m ≡ blocks_cause d bs r (mask_of (twice_below (blocks_in bs r) n)) n 0 11
+      → x ≡ cond (leb 7 m && leb m 10) m 0
       → x ≡ first_of (question_causes d bs)
   number-least r formed w n m x e f g h k l s t =
-      t ∙ sym (ap₂ (λ a b. number_by a b m) g k)
+      let whole = sym f ∙ g in
+      let counted = sym (within_is_counts bs whole) ∙ sym (h ∙ ap (within_in bs) e) ∙ k in
+      let least = sym (ap₂ (λ a b. number_by a b m) g k)
       ∙ read_number formed w m f (h ∙ ap (within_in bs) e)
       (λ u. s ∙ ap₂ (λ (y : Question) z. blocks_cause d bs y (mask_of (twice_below (blocks_in bs y) z)) z 0 11) e
-      (l ∙ ap (λ (y : Question). y.count) e))
+      (l ∙ ap (λ (y : Question). y.count) e)) in
+      t ∙ told m _ least (small whole counted)
 
   pub number-6 : (r : Question) (formed w : Bool) → r ≡ reading bs → formed ≡ records.well_formed bs → formed ≡ true
       → w ≡ within_in bs r → w ≡ false → 6 ≡ first_of (question_causes d bs)

@@ -2,9 +2,10 @@
 // refusal").
 #![tactic(auto)]
 
-ghost use Rattle.std.specs.Prelude.{ℕ, ◌+◌, ◌*◌, ◌<◌, ◌≤◌, min, eqb, ltb, length, cond, ◌≡◌, List};
+ghost use Rattle.std.specs.Prelude.{ℕ, ◌+◌, ◌*◌, ◌<◌, ◌≤◌, min, ◌&&◌, eqb, leb, ltb, length, cond, ◌≡◌, List};
 ghost use Rattle.syntax.specs.Described.{described, blocks_in};
 ghost use Rattle.model.specs.Question.{block_at};
+ghost use Rattle.model.specs.Numbers.{number_in};
 ghost use Rattle.model.specs.Records.{well_formed};
 ghost use Rattle.model.specs.Refusal.{first_of, question_causes};
 ghost use Rattle.syntax.specs.Places.{reading};
@@ -15,6 +16,7 @@ ghost use Rattle.reader.specs.Walk.{block_cause, context_at, cause_at, blocks_ca
 ghost use Rattle.reader.specs.Leaves.{block_of, child_there, constant_cause, variable_cause, fixed_cause};
 ghost use Rattle.reader.specs.Leaves.{aggregate_cause};
 
+use model::Refusal;
 use scope::{has, ratio};
 use syntax::{Block, Item, Question, byte_at, condition_end, item_at};
 
@@ -300,41 +302,50 @@ fn blocks_cause(words: &[i32], s: &[u8], q: Question, n: u8) -> u8
     least
 }
 
-// The number of a question whose records are read: 5, 6, or the least cause from 7 to 10; 0 where none applies.
-fn number_of(words: &[i32], s: &[u8], formed: bool, q: Question) -> u8
-    requires { (q ≡ reading s.now) × (formed ≡ well_formed s.now) }
-    ensures { result ≡ first_of (question_causes words.now s.now) }
+// The refusal by a number from 7 to 10, none by another.
+fn refused_by(least: u8) -> Result<(), Refusal>
+    ensures { number_in result ≡ cond (leb 7 least && leb least 10) least 0 }
 {
-    if formed {
-        if limits::within(s, q) {
-            let n = q.count as u8;
-            let least = blocks_cause(words, s, q, n);
-            return pick(least == 11, 0, least);
-        }
-        return 6;
+    match least {
+        7 => Err(Refusal::Absent),
+        8 => Err(Refusal::Variable),
+        9 => Err(Refusal::Ratio),
+        10 => Err(Refusal::Constant),
+        _ => Ok(()),
     }
-    5
 }
 
-// What a question's bytes hold over these tables: the lowest number from 5 to 10 that applies, 0 where none does, and
-// the descriptions of its blocks.
+// The refusal of a question whose records are read: by 5, by 6, or by the least cause from 7 to 10.
+fn judge(words: &[i32], s: &[u8], formed: bool, q: Question) -> Result<(), Refusal>
+    requires { (q ≡ reading s.now) × (formed ≡ well_formed s.now) }
+    ensures { number_in result ≡ first_of (question_causes words.now s.now) }
+{
+    if !formed {
+        return Err(Refusal::Records);
+    }
+    if !limits::within(s, q) {
+        return Err(Refusal::Limits);
+    }
+    let n = q.count as u8;
+    refused_by(blocks_cause(words, s, q, n))
+}
+
+// What a question's bytes hold over these tables: the refusal by the lowest number from 5 to 10 that applies, and the
+// descriptions of its blocks, whatever it is.
 #[derive(Clone, Copy)]
 pub struct Reading {
-    pub number: u8,
+    pub told: Result<(), Refusal>,
     pub question: Question,
 }
 
 // Reads a question over the data, whatever either holds: over data that number 3 or 4 refuses, 7 is judged by the
 // counts that their directory words give.
 pub fn read(words: &[i32], question: &[u8]) -> Reading
-    ensures number { result.number ≡ first_of (question_causes words.now question.now) }
+    ensures number { number_in result.told ≡ first_of (question_causes words.now question.now) }
     ensures described { result.question ≡ reading question.now }
 {
     let p = syntax::parse(question);
     let q = p.question;
-    let number = number_of(words, question, p.formed, q);
-    Reading {
-        number,
-        question: q,
-    }
+    let told = judge(words, question, p.formed, q);
+    Reading { told, question: q }
 }

@@ -2,7 +2,13 @@
 // with its ranges. Each line says what is tried; tests/tables_expected.py prints the same lines by the evaluator.
 #![tactic(auto)]
 
+use model::Refusal;
 use std::io;
+
+// The number of a refusal, 0 of none.
+fn number(told: Result<(), Refusal>) -> u64 {
+    u64::from(model::number(told))
+}
 
 // Prints a line: what is tried, and the answer.
 fn say(rt: &impl Print, what: &str, answer: u64) -> io::Result<()> {
@@ -11,7 +17,7 @@ fn say(rt: &impl Print, what: &str, answer: u64) -> io::Result<()> {
 
 // The check of some words.
 fn checked(rt: &impl Print, what: &str, words: &[i32]) -> io::Result<()> {
-    say(rt, what, tables::check(words) as u64)
+    say(rt, what, number(tables::check(words)))
 }
 
 // The check of the first words of some.
@@ -250,7 +256,7 @@ fn index_part(
         say(
             rt,
             what,
-            indexes::index(words, t, c, &mut out[..length]) as u64,
+            number(indexes::index(words, t, c, &mut out[..length])),
         )?;
     }
     Ok(())
@@ -346,7 +352,7 @@ fn small_ranges(rt: &impl Print) -> io::Result<()> {
     say(
         rt,
         "index for ranges",
-        indexes::index(&words, 0, 0, &mut out) as u64,
+        number(indexes::index(&words, 0, 0, &mut out)),
     )?;
     ranges(rt, &words, &out)?;
     far_ranges(rt, &words, &out)
@@ -369,7 +375,7 @@ fn large_index(rt: &impl Print) -> io::Result<()> {
     say(
         rt,
         "index of 256 rows",
-        indexes::index(&words, 0, 0, &mut out) as u64,
+        number(indexes::index(&words, 0, 0, &mut out)),
     )?;
     line(rt, &out)?;
     ranged(rt, "range of 0 in 256 rows", &words, &out, 0)?;

@@ -1,30 +1,23 @@
--- Both numbers are bytes, or the column is absent.
-use native.Mathlib.Omega.{arith}
-use mathlib.Core.Path.{sym, ◌∙◌}
-use borrow.Author.Tests.{ltb-true}
-use lib.Dec.{ltb}
-use Rattle.syntax.proofs.Laws.{both}
+-- A table or column past 255 is absent, unless the data are refused before.
+use Rattle.std.proofs.Common.{arith, sym, ◌∙◌}
+use Rattle.model.proofs.NumberLaws.{numbered}
+use Rattle.model.specs.Numbers.{number_of}
 use Rattle.indexes.proofs.IndexNumbers.{index-data, index-absent}
 use Rattle.capi.proofs.CallLaws.{absent}
 use Rattle.capi.proofs.abe_index.Goals as goal
 
-pub overflow_cast-table : goal.overflow_cast-table
-overflow_cast-table c =
+pub returns-in-Ok : goal.returns-in-Ok
+returns-in-Ok c =
     let a = c.args in
-    omega (arith, ltb-true a.table 256 (both (ltb a.table 256) (ltb a.column 256) c.if-table-column.true).0)
+    let z = sym c.in-Ok.ensures in
+    let r = index-absent a.words.now a.table a.column a.out.now z
+    (absent a.words.now a.table a.column z c.if-table-column.false) in
+    record { number = c.number-in-Ok.ensures ∙ r.0; words = r.1 }
 
-pub overflow_cast-column : goal.overflow_cast-column
-overflow_cast-column c =
+pub returns-in-Err : goal.returns-in-Err
+returns-in-Err c =
     let a = c.args in
-    omega (arith, ltb-true a.column 256 (both (ltb a.table 256) (ltb a.column 256) c.if-table-column.true).1)
-
-pub returns-then-number-ne0 : goal.returns-then-number-ne0
-returns-then-number-ne0 c =
-    let a = c.args in let r = index-data a.words.now a.table a.column a.out.now c.check-number.result
-    c.check-number.ensures c.if-number-ne0.true in record { number = r.0; words = r.1 }
-
-pub returns : goal.returns
-returns c =
-    let a = c.args in
-    let z = sym c.check-number.ensures ∙ c.if-number-ne0.false in let r = index-absent a.words.now a.table a.column a.out.now z
-    (absent a.words.now a.table a.column z c.if-table-column.false) in record { number = r.0; words = r.1 }
+    let some = numbered c.in-Err.refusal in
+    let r = index-data a.words.now a.table a.column a.out.now (number_of c.in-Err.refusal) c.in-Err.ensures
+    (λ z. omega arith) in
+    record { number = c.number-in-Err.ensures ∙ r.0; words = r.1 }
