@@ -3,14 +3,18 @@
 // apart from this code.
 #![tactic(auto)]
 
+mod jobs;
 mod lent;
-mod parts;
 mod print;
 mod run;
-mod stream;
 
 use std::io;
+use stream::StreamError;
 
 fn main(rt: HostRuntime) -> io::Result<()> {
-    stream::all(&rt, rt.alloc(), &mut rt.reader())
+    match jobs::all(&rt, rt.alloc(), &mut rt.reader()) {
+        Ok(jobs) => println!(rt; "jobs: {jobs}"),
+        Err(StreamError::Malformed) => println!(rt; "malformed stream"),
+        Err(StreamError::Reading(e)) => Err(e),
+    }
 }

@@ -1,7 +1,7 @@
 // One job run: buffers of the lengths asked for are lent, and every word of them is looked at afterwards.
 ghost use Rattle.std.specs.Prelude.{◌≤◌};
 
-use crate::{lent, parts, print};
+use crate::{lent, print};
 use std::alloc::Global;
 use std::io;
 
@@ -15,33 +15,34 @@ struct Lent {
     indexes: usize,
 }
 
+// The four bytes from a place on, lowest first.
+fn four(rest: &[u8; 24], at: usize) -> u32
+    requires { at ≤ 20 }
+{
+    u32::from_le_bytes([rest[at], rest[at + 1], rest[at + 2], rest[at + 3]])
+}
+
 // What part BU asks for.
 fn asked(rest: &[u8; 24]) -> Lent {
     Lent {
-        budget: (parts::four(rest, 0) as u64) + 4294967296 * (parts::four(rest, 4) as u64),
-        result: parts::four(rest, 8) as usize,
-        sets: parts::four(rest, 12) as usize,
-        files: parts::four(rest, 16) as usize,
-        indexes: parts::four(rest, 20) as usize,
+        budget: u64::from(four(rest, 0)) + (u64::from(four(rest, 4)) << 32),
+        result: four(rest, 8) as usize,
+        sets: four(rest, 12) as usize,
+        files: four(rest, 16) as usize,
+        indexes: four(rest, 20) as usize,
     }
 }
 
 // How many words of a work buffer are to be 0 after an answer: those named, and none under number 1.
 fn zeros(number: u8, named: usize) -> usize {
-    if number == 1 {
-        return 0;
-    }
-    named
+    if number == 1 { 0 } else { named }
 }
 
 // The values in rows of so many columns; in over 256 rows or 4 columns, which no result holds, none.
 fn values(rows: usize, columns: usize) -> usize
     ensures { result ≤ 1024 }
 {
-    if rows > 256 {
-        return 0;
-    }
-    if columns > 4 {
+    if rows > 256 || columns > 4 {
         return 0;
     }
     rows * columns
@@ -66,10 +67,10 @@ fn lend(
     indexes: &mut [u16],
     res: &mut [i64],
 ) -> model::Answer {
-    let n = lent::cut(l.sets, sets);
-    let m = lent::cut(l.files, files);
-    let k = lent::cut_indexes(l.indexes, indexes);
-    let r = lent::cut(l.result, res);
+    let n = l.sets.min(sets.len());
+    let m = l.files.min(files.len());
+    let k = l.indexes.min(indexes.len());
+    let r = l.result.min(res.len());
     engine::run(
         words,
         question,
@@ -86,7 +87,7 @@ fn lend(
 fn is_right(a: model::Answer, sets: &[i64], files: &[i64], indexes: &[u16], res: &[i64]) -> bool {
     lent::zeroed(sets, zeros(a.number, 8192))
         & lent::zeroed(files, zeros(a.number, 8192))
-        & lent::zeroed_indexes(indexes, zeros(a.number, 1280))
+        & lent::zeroed(indexes, zeros(a.number, 1280))
         & lent::kept(res, taken(a))
 }
 
@@ -111,7 +112,7 @@ fn tell(
 fn fill(sets: &mut [i64], files: &mut [i64], indexes: &mut [u16], res: &mut [i64]) {
     lent::fill(sets);
     lent::fill(files);
-    lent::fill_indexes(indexes);
+    lent::fill(indexes);
     lent::fill(res);
 }
 

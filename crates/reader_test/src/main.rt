@@ -4,16 +4,18 @@
 #![tactic(auto)]
 
 mod changes;
+mod jobs;
 mod judge;
-mod parts;
-mod stream;
 
 use std::io;
+use stream::StreamError;
 
 // All the lines; those of J only after a stream that is well formed.
 fn main(rt: HostRuntime) -> io::Result<()> {
-    if stream::all(&rt, rt.alloc(), &mut rt.reader())? {
-        changes::all(&rt)?;
+    match jobs::all(&rt, rt.alloc(), &mut rt.reader()) {
+        Ok(jobs) => println!(rt; "jobs: {jobs}")?,
+        Err(StreamError::Malformed) => return println!(rt; "malformed stream"),
+        Err(StreamError::Reading(e)) => return Err(e),
     }
-    Ok(())
+    changes::all(&rt)
 }
