@@ -1,2 +1,3 @@
--- Other crates cite ChartAnswers.
+-- Other crates cite ChartAnswers and Orders.
 pub mod ChartAnswers
+pub mod Orders

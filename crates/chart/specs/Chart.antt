@@ -1,12 +1,16 @@
 -- The chart of the operators (No. 7): a case for each operator and each of less, equal and greater, and absent beside
 -- them.
+--   ordering_of c          the model's order as the library's
 --   relation_of c          how two values that are present stand, by their order
+--   relation_by o          the same, by the library's order
 --   relation_between x y   how two values stand: absent unless both are present
 --   among l e g r         l, e or g where the relation is less, equal or greater; absent is one case for all
 --   case_of o r            the case of operator o (0 =, 1 ≠, 2 <, 3 ≤, 4 >, 5 and above ≥) and a relation
 --   chart_of c             the chart: whether the condition is met
 use Prim.Native.Nat.{ℕ, zero, suc, Ordering}
 use Rattle.std.specs.Prelude.{Bool, true, false, ◌&&◌, cond}
+use Rattle.std.specs.declared.cmp.Ordering as cmp
+use Rattle.std.specs.declared.cmp.Ordering.TheVariants as ordering
 use Rattle.model.specs.Value.{Value, present, order}
 use Rattle.chart.specs.declared.Relation.{Relation}
 use Rattle.chart.specs.declared.Relation.TheVariants.{Less, Equal, Greater, Absent}
@@ -19,10 +23,20 @@ use Rattle.chart.specs.declared.Case.TheVariants.{GreaterWhenLess, GreaterWhenEq
 use Rattle.chart.specs.declared.Case.TheVariants.{AtLeastWhenLess, AtLeastWhenEqual, AtLeastWhenGreater}
 use Rattle.chart.specs.declared.Case.TheVariants.{AnyWhenAbsent}
 
+abbrev pub ordering_of : Ordering → cmp.Ordering
+ordering_of Ordering.lt = ordering.Less
+ordering_of Ordering.eq = ordering.Equal
+ordering_of Ordering.gt = ordering.Greater
+
 abbrev pub relation_of : Ordering → Relation
 relation_of Ordering.lt = Less
 relation_of Ordering.eq = Equal
 relation_of Ordering.gt = Greater
+
+abbrev pub relation_by : cmp.Ordering → Relation
+relation_by ordering.Less = Less
+relation_by ordering.Equal = Equal
+relation_by ordering.Greater = Greater
 
 abbrev pub relation_between : Value → Value → Relation
 relation_between x y = cond (present x && present y) (relation_of (order x y)) Absent

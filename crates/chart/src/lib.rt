@@ -4,12 +4,14 @@
 // The values of the two elements stand to each other in one of four ways (`Relation`). For each operator and each of
 // less, equal and greater there is a case, eighteen in all (`Case`). Its name says what the operator asks and how the
 // values stand: `AtMostWhenEqual` is ≤ between two equal values. Absent is a case beside them, the same for all six.
-// `answer` is the chart, a line for each case. The functions below it find the case.
+// `answer` is the chart, a line for each case. `case_of` finds the case.
 #![tactic(auto)]
 
 ghost use Rattle.std.specs.Prelude.{◌≡◌};
 ghost use Rattle.model.specs.Value.{compare_z};
 ghost use Rattle.chart.specs.Chart.{relation_of, case_of, chart_of};
+
+use std::cmp::Ordering;
 
 // How the first value stands to the second. Absent: one of them, or both, is absent.
 #[derive(Clone, Copy)]
@@ -85,90 +87,37 @@ pub fn answer(c: Case) -> bool
     }
 }
 
-// The cases of =.
-fn equal(r: Relation) -> Case
-    ensures { result ≡ case_of 0 r }
-{
-    match r {
-        Relation::Less => Case::EqualWhenLess,
-        Relation::Equal => Case::EqualWhenEqual,
-        Relation::Greater => Case::EqualWhenGreater,
-        Relation::Absent => Case::AnyWhenAbsent,
-    }
-}
-
-// The cases of ≠.
-fn unequal(r: Relation) -> Case
-    ensures { result ≡ case_of 1 r }
-{
-    match r {
-        Relation::Less => Case::UnequalWhenLess,
-        Relation::Equal => Case::UnequalWhenEqual,
-        Relation::Greater => Case::UnequalWhenGreater,
-        Relation::Absent => Case::AnyWhenAbsent,
-    }
-}
-
-// The cases of <.
-fn less(r: Relation) -> Case
-    ensures { result ≡ case_of 2 r }
-{
-    match r {
-        Relation::Less => Case::LessWhenLess,
-        Relation::Equal => Case::LessWhenEqual,
-        Relation::Greater => Case::LessWhenGreater,
-        Relation::Absent => Case::AnyWhenAbsent,
-    }
-}
-
-// The cases of ≤.
-fn at_most(r: Relation) -> Case
-    ensures { result ≡ case_of 3 r }
-{
-    match r {
-        Relation::Less => Case::AtMostWhenLess,
-        Relation::Equal => Case::AtMostWhenEqual,
-        Relation::Greater => Case::AtMostWhenGreater,
-        Relation::Absent => Case::AnyWhenAbsent,
-    }
-}
-
-// The cases of >.
-fn greater(r: Relation) -> Case
-    ensures { result ≡ case_of 4 r }
-{
-    match r {
-        Relation::Less => Case::GreaterWhenLess,
-        Relation::Equal => Case::GreaterWhenEqual,
-        Relation::Greater => Case::GreaterWhenGreater,
-        Relation::Absent => Case::AnyWhenAbsent,
-    }
-}
-
-// The cases of ≥.
-fn at_least(r: Relation) -> Case
-    ensures { result ≡ case_of 5 r }
-{
-    match r {
-        Relation::Less => Case::AtLeastWhenLess,
-        Relation::Equal => Case::AtLeastWhenEqual,
-        Relation::Greater => Case::AtLeastWhenGreater,
-        Relation::Absent => Case::AnyWhenAbsent,
-    }
-}
-
 // The case of an operator and a relation. The operator is given by its number; one over 5, which no accepted question
 // has, is read as ≥.
 pub fn case_of(op: u8, r: Relation) -> Case
     ensures { result ≡ case_of op r }
 {
-    match op {
-        0 => equal(r),
-        1 => unequal(r),
-        2 => less(r),
-        3 => at_most(r),
-        4 => greater(r),
-        _ => at_least(r),
+    match (op, r) {
+        (_, Relation::Absent) => Case::AnyWhenAbsent,
+        // =
+        (0, Relation::Less) => Case::EqualWhenLess,
+        (0, Relation::Equal) => Case::EqualWhenEqual,
+        (0, Relation::Greater) => Case::EqualWhenGreater,
+        // ≠
+        (1, Relation::Less) => Case::UnequalWhenLess,
+        (1, Relation::Equal) => Case::UnequalWhenEqual,
+        (1, Relation::Greater) => Case::UnequalWhenGreater,
+        // <
+        (2, Relation::Less) => Case::LessWhenLess,
+        (2, Relation::Equal) => Case::LessWhenEqual,
+        (2, Relation::Greater) => Case::LessWhenGreater,
+        // ≤
+        (3, Relation::Less) => Case::AtMostWhenLess,
+        (3, Relation::Equal) => Case::AtMostWhenEqual,
+        (3, Relation::Greater) => Case::AtMostWhenGreater,
+        // >
+        (4, Relation::Less) => Case::GreaterWhenLess,
+        (4, Relation::Equal) => Case::GreaterWhenEqual,
+        (4, Relation::Greater) => Case::GreaterWhenGreater,
+        // ≥
+        (_, Relation::Less) => Case::AtLeastWhenLess,
+        (_, Relation::Equal) => Case::AtLeastWhenEqual,
+        (_, Relation::Greater) => Case::AtLeastWhenGreater,
     }
 }
 
@@ -183,11 +132,9 @@ pub fn meets(op: u8, r: Relation) -> bool
 pub fn integers(x: i64, y: i64) -> Relation
     ensures { result ≡ relation_of (compare_z x y) }
 {
-    if x < y {
-        return Relation::Less;
+    match x.cmp(&y) {
+        Ordering::Less => Relation::Less,
+        Ordering::Equal => Relation::Equal,
+        Ordering::Greater => Relation::Greater,
     }
-    if y < x {
-        return Relation::Greater;
-    }
-    Relation::Equal
 }

@@ -5,25 +5,25 @@ use native.Mathlib.Nat.{lt_of_le_of_lt}
 use native.Mathlib.Omega.{arith}
 use mathlib.Core.Bool.{Bool, true, false, ◌&&◌, cond}
 use mathlib.Core.Path.{◌≡◌, refl, sym, ◌∙◌, ap, ap₂, subst}
-use mir.Facts.{to_z-of_z}
 use mir.Syntax.{w64}
 use mir.Val.{SFits, to_z, of_z}
-use borrow.Author.Tests.{ltb-true, ltb-false, lt-ltb, le-leb, eqb-true}
+use borrow.Author.Tests.{ltb-true, ltb-false, lt-ltb, le-leb}
 use lib.Dec.{T, eqb, ltb, leb, eqb→eq, ltb→lt, leb→le, lit<}
 use lib.IntN.{ℤ, pos, nat_abs, ◌*ℤ◌, negsuc}
 use lib.Signed.{le_z}
+use Rattle.std.specs.Prelude.{None, Some}
+use Rattle.std.specs.Ordering.{int_cmp}
+use Rattle.std.specs.declared.cmp.Ordering as cmp
+use Rattle.std.proofs.lemmas.Option.{none-some, same_Some}
 use Rattle.model.specs.Value as model
 use Rattle.model.specs.Value.{compare_z, order}
 use Rattle.model.proofs.ValueLaws.{compare_self, scale_z, both_present}
-use Rattle.chart.specs.Chart.{relation_of, relation_between, case_of, chart_of}
+use Rattle.chart.specs.Chart.{ordering_of, relation_of, relation_by, relation_between, case_of, chart_of}
 use Rattle.chart.specs.declared.Relation.TheVariants as chart
 use Rattle.chart.proofs.ChartAnswers.{chart_meets}
+use Rattle.chart.proofs.Orders.{int_cmp-is, relation_by-of}
 use Rattle.value.specs.declared.Value.{Value}
-use Rattle.value.specs.declared.Compared.{Compared}
-use Rattle.value.specs.declared.Compared.TheVariants.{Less, Equal, Greater, Outside}
-use Rattle.value.specs.declared.Verdict.{Verdict}
-use Rattle.value.specs.declared.Verdict.TheVariants as verdict
-use Rattle.value.specs.Exact.{exact, in_words, inside_of, Fair, tell, order_of, holds_of, says}
+use Rattle.value.specs.Exact.{exact, in_words, inside_of, Fair, tell, order_of, holds_of}
 use Rattle.value.proofs.Ints.{abs-zero, abs-mul-le, sfits_abs, read_back}
 
 -- a value that is present has a denominator, an absent one none
@@ -73,25 +73,6 @@ inside_is v t = go (model.present (exact v)) refl
     go true e = some (rw e at t)
     go false e = rw (inside-absent v t e) (record { num = zero-le; den = zero-le; sign = refl })
 
--- the tests one by one
-pub inside-none : (v : Value) → model.present (exact v) ≡ false → inside_of v ≡ eqb (nat_abs v.num) 0
-unfolding inside_of
-inside-none v p = simp p
-
-module _ (v : Value) (p : model.present (exact v) ≡ true) where
-  pub inside-num : leb (nat_abs v.num) 1000000000000000 ≡ false → inside_of v ≡ false
-  unfolding inside_of
-  inside-num e = simp (p, e)
-
-  pub inside-low : leb (nat_abs v.num) 1000000000000000 ≡ true → le_z (pos 1) v.den ≡ false → inside_of v ≡ false
-  unfolding inside_of
-  inside-low e f = simp (p, e, f)
-
-  pub inside-high : leb (nat_abs v.num) 1000000000000000 ≡ true → le_z (pos 1) v.den ≡ true
-      → inside_of v ≡ le_z v.den (pos 256)
-  unfolding inside_of
-  inside-high e f = simp (p, e, f)
-
 -- a product of a numerator and a denominator
 module _ (n d : ℤ) (p : nat_abs n ≤ 1000000000000000) (q : nat_abs d ≤ 256) where
   operands : to_z w64 (of_z w64 n) *ℤ to_z w64 (of_z w64 d) ≡ n *ℤ d
@@ -137,10 +118,10 @@ module _ (x y : Value) (p : T (inside_of x)) (q : T (inside_of y)) where
 
   -- where one is absent, the denominators tell
   pub denominators : model.present (exact x) && model.present (exact y) ≡ false
-      → compare_z (passed x.den) (passed y.den) ≡ order (exact x) (exact y)
+      → compare_z x.den y.den ≡ order (exact x) (exact y)
   unfolding order compare_z model.present
   denominators e =
-      ap₂ compare_z (den-passed x p ∙ sym (inside_is x p).sign) (den-passed y q ∙ sym (inside_is y q).sign)
+      ap₂ compare_z (sym (inside_is x p).sign) (sym (inside_is y q).sign)
       ∙ go (nat_abs x.den) (nat_abs y.den) e
     where
       go : (d e : ℕ) → ltb 0 d && ltb 0 e ≡ false
@@ -151,43 +132,45 @@ module _ (x y : Value) (p : T (inside_of x)) (q : T (inside_of y)) where
       go (suc d) (suc e) h =
           absurd (subst T (sym (ap₂ ◌&&◌ (lt-ltb 0 (suc d) (omega arith)) (lt-ltb 0 (suc e) (omega arith))) ∙ h) tt)
 
--- an operator by the chart, where both values are present or not
-abbrev pub judge : ℕ → Bool → Compared → Verdict
-judge op there Less = says (chart_of (case_of op (cond there chart.Less chart.Absent)))
-judge op there Equal = says (chart_of (case_of op (cond there chart.Equal chart.Absent)))
-judge op there Greater = says (chart_of (case_of op (cond there chart.Greater chart.Absent)))
-judge op there Outside = verdict.Outside
+pub order-inside : (x y : Value) → inside_of x ≡ true → inside_of y ≡ true
+    → order_of x y ≡ tell (order (exact x) (exact y))
+unfolding order_of
+order-inside x y e f = simp (e, f)
 
--- the order, by where the values are
-module _ (x y : Value) where
-  pub order-left : inside_of x ≡ false → order_of x y ≡ Outside
-  unfolding order_of
-  order-left e = simp e
-
-  pub order-right : inside_of x ≡ true → inside_of y ≡ false → order_of x y ≡ Outside
-  unfolding order_of
-  order-right e f = simp (e, f)
-
-  pub order-inside : inside_of x ≡ true → inside_of y ≡ true → order_of x y ≡ tell (order (exact x) (exact y))
-  unfolding order_of
-  order-inside e f = simp (e, f)
-
-  pub holds_by : (op : ℕ) (o : Compared) → order_of x y ≡ o
-      → holds_of op x y ≡ judge op (model.present (exact x) && model.present (exact y)) o
+-- an operator of two values, by their order and the chart
+module _ (op : ℕ) (x y : Value) where
+  pub holds_none : order_of x y ≡ None → holds_of op x y ≡ None
   unfolding holds_of order_of
-  holds_by op o e =
-      ap (λ b. cond (inside_of x && inside_of y) (says b) verdict.Outside)
-      (sym (chart_meets op (relation_between (exact x) (exact y)) (exact x) (exact y) refl))
-      ∙ go (inside_of x && inside_of y) (model.present (exact x) && model.present (exact y)) (order (exact x) (exact y))
-      ∙ ap (judge op (model.present (exact x) && model.present (exact y))) e
+  holds_none e = go (inside_of x && inside_of y) e
     where
-      go : (t there : Bool) (c : Ordering)
-          → cond t (says (chart_of (case_of op (cond there (relation_of c) chart.Absent)))) verdict.Outside
-          ≡ judge op there (cond t (tell c) Outside)
-      go true there Ordering.lt = refl
-      go true there Ordering.eq = refl
-      go true there Ordering.gt = refl
-      go false there c = refl
+      go : (t : Bool) → cond t (tell (order (exact x) (exact y))) None ≡ None
+          → cond t (Some (model.meets op (exact x) (exact y))) None ≡ None
+      go true e = absurd (none-some _ (sym e))
+      go false e = refl
+
+  pub holds_some : {o : cmp.Ordering} → order_of x y ≡ Some o
+      → holds_of op x y
+      ≡ Some (chart_of (case_of op (cond (model.present (exact x) && model.present (exact y)) (relation_by o) chart.Absent)))
+  unfolding holds_of order_of
+  holds_some {o} e = go (inside_of x && inside_of y) e
+    where
+      there : Bool
+      there = model.present (exact x) && model.present (exact y)
+
+      met : (c : Ordering) → relation_between (exact x) (exact y) ≡ cond there (relation_of c) chart.Absent
+          → model.meets op (exact x) (exact y)
+          ≡ chart_of (case_of op (cond there (relation_by (ordering_of c)) chart.Absent))
+      met c e =
+          sym (chart_meets op (relation_between (exact x) (exact y)) (exact x) (exact y) refl)
+          ∙ ap (λ r. chart_of (case_of op r)) (e ∙ ap (λ r. cond there r chart.Absent) (sym (relation_by-of c)))
+
+      go : (t : Bool) → cond t (tell (order (exact x) (exact y))) None ≡ Some o
+          → cond t (Some (model.meets op (exact x) (exact y))) None
+          ≡ Some (chart_of (case_of op (cond there (relation_by o) chart.Absent)))
+      go true e =
+          ap Some (met (order (exact x) (exact y)) refl)
+          ∙ ap (λ p. Some (chart_of (case_of op (cond there (relation_by p) chart.Absent)))) (same_Some _ _ e)
+      go false e = absurd (none-some _ e)
 
 -- ---- whole values: the numerators tell
 inside-whole : (n : ℤ) → inside_of (in_words (model.whole n)) ≡ leb (nat_abs n) 1000000000000000
@@ -198,41 +181,15 @@ inside-whole n = go (leb (nat_abs n) 1000000000000000)
     go true = refl
     go false = refl
 
-module _ (n m : ℤ) (s t : Bool) (s-is : s ≡ leb (nat_abs n) 1000000000000000)
-    (t-is : t ≡ leb (nat_abs m) 1000000000000000) where
-  within : inside_of (in_words (model.whole n)) && inside_of (in_words (model.whole m)) ≡ s && t
-  within = ap₂ ◌&&◌ (inside-whole n ∙ sym s-is) (inside-whole m ∙ sym t-is)
-
-  pub wholes-inside : s && t ≡ true → tell (compare_z n m) ≡ order_of (in_words (model.whole n)) (in_words (model.whole m))
-  unfolding order_of order model.order_present
-  wholes-inside e = rw (within ∙ e) (ap tell (sym (scale_z n m 1 (omega arith))))
-
-  pub wholes-outside : s && t ≡ false → Outside ≡ order_of (in_words (model.whole n)) (in_words (model.whole m))
-  unfolding order_of
-  wholes-outside e = rw (within ∙ e) refl
-
--- a denominator whose bits are 1
-den-one : (d : ℤ) → SFits w64 d → eqb (of_z w64 d) 1 ≡ true → pos 1 ≡ d
-den-one d f e = sym (ap (to_z w64) (eqb-true (of_z w64 d) 1 e)) ∙ to_z-of_z {w = w64} {z = d} f
-
-pub wholes_are : (x y : Value) → SFits w64 x.num → SFits w64 x.den → SFits w64 y.num → SFits w64 y.den
-    → eqb (of_z w64 x.den) 1 && eqb (of_z w64 y.den) 1 ≡ true
-    → order_of (in_words (model.whole (to_z w64 (of_z w64 x.num)))) (in_words (model.whole (to_z w64 (of_z w64 y.num))))
-    ≡ order_of x y
-wholes_are x y f g h k e =
-    let d = true-both (eqb (of_z w64 x.den) 1) (eqb (of_z w64 y.den) 1) e in
-    ap₂ order_of (same x f g d.0) (same y h k d.1)
+pub wholes_some : (n m : ℤ) {o : cmp.Ordering} → o ≡ int_cmp n m → nat_abs n ≤ 1000000000000000
+    → nat_abs m ≤ 1000000000000000 → Some o ≡ order_of (in_words (model.whole n)) (in_words (model.whole m))
+unfolding order_of order model.order_present
+wholes_some n m e h k =
+    rw (ap₂ ◌&&◌ (small n h) (small m k))
+    (ap Some (e ∙ int_cmp-is n m) ∙ ap tell (sym (scale_z n m 1 (omega arith))))
   where
-    true-both : (a b : Bool) → a && b ≡ true → (a ≡ true) × (b ≡ true)
-    true-both true b e = (refl, e)
-    true-both false b e = absurd (subst T (sym e) tt)
-
-    same : (v : Value) → SFits w64 v.num → SFits w64 v.den → eqb (of_z w64 v.den) 1 ≡ true
-        → in_words (model.whole (to_z w64 (of_z w64 v.num))) ≡ v
-    same v f g e =
-        let n = to_z-of_z {w = w64} {z = v.num} f in
-        let d = den-one v.den g e in
-        λ j. record { num = n j; den = d j }
+    small : (z : ℤ) → nat_abs z ≤ 1000000000000000 → inside_of (in_words (model.whole z)) ≡ true
+    small z h = inside-whole z ∙ le-leb (nat_abs z) 1000000000000000 h
 
 -- ---- values of the model within the bounds
 pub fair_inside : (v : model.Value) → Fair v → inside_of (in_words v) ≡ true
@@ -253,6 +210,6 @@ pub fair_order : (v w : model.Value) → Fair v → Fair w → order_of (in_word
 fair_order v w f g = order-inside (in_words v) (in_words w) (fair_inside v f) (fair_inside w g)
 
 pub fair_holds : (op : ℕ) (v w : model.Value) → Fair v → Fair w
-    → holds_of op (in_words v) (in_words w) ≡ says (model.meets op v w)
+    → holds_of op (in_words v) (in_words w) ≡ Some (model.meets op v w)
 unfolding holds_of
 fair_holds op v w f g = simp (fair_inside v f, fair_inside w g)

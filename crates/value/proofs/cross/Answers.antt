@@ -1,20 +1,13 @@
--- `cross` meets its contract: both products fit, and they are compared. Assumes nothing.
-use Rattle.std.proofs.Common.{rules}
-use mathlib.Core.Path.{ap, ap₂, ◌∙◌}
-use Rattle.model.specs.Value.{compare_z}
-use Rattle.value.specs.Exact.{tell}
-use Rattle.value.proofs.Laws.{product-fits, product_is}
+-- `cross` meets its contract: both products fit, and the library compares them. Assumes nothing.
+use mathlib.Core.Path.{ap₂, ◌∙◌}
+use Rattle.std.specs.Ordering.{int_cmp}
+use Rattle.chart.proofs.Orders.{int_cmp-is}
+use Rattle.value.proofs.Laws.{product_is}
 use Rattle.value.proofs.cross.Goals as goal
-
-pub overflow_mul-a : goal.overflow_mul-a
-overflow_mul-a c = search (rules, product-fits)
-
-pub overflow_mul-b : goal.overflow_mul-b
-overflow_mul-b c = search (rules, product-fits)
 
 pub returns : goal.returns
 returns c =
     let s = c.args in
     let left = product_is s.n s.e c.requires.n_bound.0 c.requires.n_bound.1 in
     let right = product_is s.m s.d c.requires.m_bound.0 c.requires.m_bound.1 in
-    c.compare.ensures ∙ ap tell (ap₂ compare_z left right)
+    c.cmp.ensures ∙ ap₂ int_cmp left right ∙ int_cmp-is _ _

@@ -1,7 +1,8 @@
 -- `order_inside` meets its contract: both present, or one absent. Assumes nothing.
 use mathlib.Core.Bool.{◌&&◌}
 use mathlib.Core.Path.{sym, ap, ap₂, ◌∙◌}
-use Rattle.value.specs.Exact.{tell}
+use Rattle.chart.proofs.Orders.{int_cmp-is}
+use Rattle.chart.specs.Chart.{ordering_of}
 use Rattle.value.proofs.Laws.{num-small, den-small, crossed, denominators}
 use Rattle.value.proofs.order_inside.Goals as goal
 
@@ -15,11 +16,11 @@ returns-then-present c =
     let a = c.args in
     let p = c.requires in
     let both = sym (ap₂ ◌&&◌ c.present.ensures c.present-2.ensures) in
-    c.cross.ensures ∙ ap tell (crossed a.x a.y p.0 p.1 (both ∙ c.if-present.true))
+    c.cross.ensures ∙ ap ordering_of (crossed a.x a.y p.0 p.1 (both ∙ c.if-present.true))
 
 pub returns : goal.returns
 returns c =
     let a = c.args in
     let p = c.requires in
     let both = sym (ap₂ ◌&&◌ c.present.ensures c.present-2.ensures) in
-    c.compare.ensures ∙ ap tell (denominators a.x a.y p.0 p.1 (both ∙ c.if-present.false))
+    c.cmp.ensures ∙ int_cmp-is _ _ ∙ ap ordering_of (denominators a.x a.y p.0 p.1 (both ∙ c.if-present.false))
