@@ -81,9 +81,6 @@ module _ (n d : ℤ) (p : nat_abs n ≤ 1000000000000000) (q : nat_abs d ≤ 256
   product_small : nat_abs (n *ℤ d) < 2 ^ 63
   product_small = lt_of_le_of_lt (abs-mul-le n d p q) (lit< tt)
 
-  pub product-fits : SFits w64 (to_z w64 (of_z w64 n) *ℤ to_z w64 (of_z w64 d))
-  product-fits = rw operands (sfits_abs (n *ℤ d) product_small)
-
   pub product_is : to_z w64 (of_z w64 (to_z w64 (of_z w64 n) *ℤ to_z w64 (of_z w64 d))) ≡ n *ℤ d
   product_is = rw operands (read_back (n *ℤ d) product_small)
 

@@ -59,9 +59,9 @@ module _ (l : List ℤ) (p e m : ℕ) (fits : e + m ≤ length l) (s : List ℤ)
           ∙ h.moved k (let z : k ≡ j - 1 → ⊥ = x in omega arith) r
 
   -- so at the end
-  pub moved-end : j ≤ p → s ≡ shifted p e m l
+  pub moved_end : j ≤ p → s ≡ shifted p e m l
   unfolding shifted
-  moved-end le = ext_get_or (pos 0) s _ lengths each
+  moved_end le = ext_get_or (pos 0) s _ lengths each
     where
       lengths : length s ≡ length (take (p + m) l ++ take (e - p) (drop p l) ++ drop (e + m) l)
       lengths = simp (length-append, length-take, length-drop) (omega (arith, h.long, h.low, h.high))
@@ -141,7 +141,7 @@ moved_of_shifted l p e m fits j low high =
     let i : e - (e - j) ≡ j = omega arith in
     let a = moved_turns l p e m fits l e (moved_begin l p e m (omega arith)) (e - j) (omega arith) in
     let b = moved_turns l j e m fits l e (moved_begin l j e m high) (e - j) (omega arith) in
-    let same : turns m (e - j) l e ≡ shifted j e m l = moved-end l j e m fits _ (e - (e - j)) b (omega arith) in
+    let same : turns m (e - j) l e ≡ shifted j e m l = moved_end l j e m fits _ (e - (e - j)) b (omega arith) in
     rw same at (rw i at a)
 
 -- the words from j to e moved, then those from p to j: those from p to e moved
@@ -153,12 +153,12 @@ shifted_join l p j e m fits low high =
     let fits' : j + m ≤ length s = omega (arith, h.long) in
     let a = moved_turns l p e m fits s j h (j - p) (omega arith) in
     let b = moved_turns s p j m fits' s j (moved_begin s p j m low) (j - p) (omega arith) in
-    sym (moved-end s p j m fits' _ (j - (j - p)) b (omega arith))
-    ∙ moved-end l p e m fits _ (j - (j - p)) a (omega arith)
+    sym (moved_end s p j m fits' _ (j - (j - p)) b (omega arith))
+    ∙ moved_end l p e m fits _ (j - (j - p)) a (omega arith)
 
 -- none moved
 pub shifted_none : (l : List ℤ) (e m : ℕ) → e + m ≤ length l → l ≡ shifted e e m l
-shifted_none l e m fits = moved-end l e e m fits l e (moved_begin l e e m (omega arith)) (omega arith)
+shifted_none l e m fits = moved_end l e e m fits l e (moved_begin l e e m (omega arith)) (omega arith)
 
 -- ---- a value is two words
 -- the value at place j - 1 put m places further up
@@ -203,4 +203,4 @@ moved_four l j m fits =
     let c = moved_first l j (j + 4) m fits _ (j + 3) (j + 2) (omega arith) d (omega arith) in
     let b = moved_first l j (j + 4) m fits _ (j + 2) (j + 1) (omega arith) c (omega arith) in
     let a = moved_first l j (j + 4) m fits _ (j + 1) j (omega arith) b (omega arith) in
-    moved-end l (2 * j) (2 * (j + 4)) (2 * m) (omega arith) _ (2 * j) a (omega arith)
+    moved_end l (2 * j) (2 * (j + 4)) (2 * m) (omega arith) _ (2 * j) a (omega arith)

@@ -3,14 +3,13 @@
 use Prim.Native.Nat.{ℕ, zero, suc, ◌+◌, ◌*◌, ◌<◌, ◌≤◌, ◌-◌}
 use native.Mathlib.Nat.{mul-le-mul, not-suc-le-zero, le_of_suc-le-suc}
 use native.Mathlib.Omega.{arith}
-use mathlib.Core.Bool.{Bool, true, false, ◌&&◌}
-use mathlib.Core.List.{List, [], ◌∷◌, ◌++◌, append_assoc, append-nil}
+use mathlib.Core.Bool.{true}
+use mathlib.Core.List.{List, [], ◌∷◌, ◌++◌, append_assoc}
 use mathlib.Core.Path.{◌≡◌, refl, sym, ◌∙◌, ap, ap₂}
-use borrow.Author.Tests.{le-leb, lt-leb, lt-ltb, le-ltb}
+use borrow.Author.Tests.{le-leb, lt-ltb, le-ltb}
 use lib.IntN.{ℤ, pos}
-use lib.ListN.{length, get_or, set, take, drop, replicate, length-set, length-append, length-take, length-drop}
-use borrow.Rule.Slice.PartMut.{put_mid}
-use lib.Seq.{paste, paste-suc, get_or-set_same, get_or-set_other, length-take-le}
+use lib.ListN.{length, get_or, set, take, replicate, length-set, length-append}
+use lib.Seq.{paste, paste-suc, get_or-set_same, get_or-set_other}
 use Rattle.model.specs.Lists.{overwrite}
 use Rattle.model.specs.RowSet.{Row, row_words, set_words}
 use Rattle.model.specs.Value.{Value}
@@ -114,47 +113,18 @@ carries_more p x c v h r =
           ∙ sym (row_words_more c v);
     }
 
--- ---- whole buffers
-pub overwritten : (s l : List ℤ) (k : ℕ) → k ≤ length s → paste l 0 s k ≡ overwrite (take k s) l
-unfolding overwrite
-overwritten s l k h =
-    ap (λ m. take k s ++ drop m l) ((let e : 0 + k ≡ k = omega arith in e) ∙ sym (length-take-le k s h))
-
 pub copied : (m : ℕ) (s l : List ℤ) → copyable m s l ≡ true → words_copied m s l ≡ overwrite (take (words_of m) s) l
 unfolding words_copied
 copied m s l e = simp e
-
-pub not_copied : (m : ℕ) (s l : List ℤ) → copyable m s l ≡ false → words_copied m s l ≡ l
-unfolding words_copied
-not_copied m s l e = simp e
 
 pub zeroed : (n : ℕ) (l : List ℤ) → n ≤ length l → words_zeroed n l ≡ overwrite (replicate n (pos 0)) l
 unfolding words_zeroed
 zeroed n l h = simp (le-leb n (length l) h)
 
-pub not_zeroed : (n : ℕ) (l : List ℤ) → length l < n → words_zeroed n l ≡ l
-unfolding words_zeroed
-not_zeroed n l h = simp (lt-leb n (length l) h)
-
 -- a set copied: the model's words of the set, and every word after them as it was
 pub encodes_copied : (n : ℕ) (s l : List ℤ) (rows : List Row) → Encodes n s rows
     → copyable (length rows * n) s l ≡ true → words_copied (length rows * n) s l ≡ overwrite (set_words rows) l
 encodes_copied n s l rows E e = copied (length rows * n) s l e ∙ ap (λ t. overwrite t l) E.words
-
--- a loop that clears
-pub length_fill : {A : Type 0} (n : ℕ) (v : A) → length (replicate n v) ≡ n
-length_fill zero v = refl
-length_fill (suc n) v = ap suc (length_fill n v)
-
-pub fill_suc : {A : Type 0} (n : ℕ) (v : A) (d : List A) → n < length d
-    → set (replicate n v ++ drop n d) n v ≡ replicate (suc n) v ++ drop (suc n) d
-fill_suc n v [] l = absurd (not-suc-le-zero l)
-fill_suc zero v (x ∷ d) l = refl
-fill_suc (suc n) v (x ∷ d) l = ap (λ t. v ∷ t) (fill_suc n v d (le_of_suc-le-suc l))
-
-pub filled : (n : ℕ) (l : List ℤ) → replicate n (pos 0) ++ drop n l ≡ overwrite (replicate n (pos 0)) l
-unfolding overwrite
-filled n l = ap (λ k. replicate n (pos 0) ++ drop k l) (sym (length_fill n (pos 0)))
 
 -- values zeroed in front, and behind
 pub front_zeroed_lem : (m : ℕ) (l : List ℤ) → m ≤ room_of (length l)
@@ -162,44 +132,7 @@ pub front_zeroed_lem : (m : ℕ) (l : List ℤ) → m ≤ room_of (length l)
 unfolding front_zeroed
 front_zeroed_lem m l h = simp (le-leb m (room_of (length l)) h)
 
-pub front_kept : (m : ℕ) (l : List ℤ) → room_of (length l) < m → front_zeroed m l ≡ l
-unfolding front_zeroed
-front_kept m l h = simp (lt-leb m (room_of (length l)) h)
-
 pub behind_zeroed_lem : (m : ℕ) (l : List ℤ) → m ≤ room_of (length l)
     → behind_zeroed m l ≡ take (words_of m) l ++ replicate (length l - words_of m) (pos 0)
 unfolding behind_zeroed
 behind_zeroed_lem m l h = simp (le-leb m (room_of (length l)) h)
-
-pub behind_kept : (m : ℕ) (l : List ℤ) → room_of (length l) < m → behind_zeroed m l ≡ l
-unfolding behind_zeroed
-behind_kept m l h = simp (lt-leb m (room_of (length l)) h)
-
-drop_past : {A : Type 0} (n : ℕ) (l : List A) → length l ≤ n → drop n l ≡ []
-drop_past zero [] h = refl
-drop_past (suc n) [] h = refl
-drop_past zero (x ∷ xs) h = absurd (not-suc-le-zero h)
-drop_past (suc n) (x ∷ xs) h = drop_past n xs (le_of_suc-le-suc h)
-
--- a part to the end, cleared, is zeros and nothing behind
-pub part_cleared : (a : ℕ) (l ys : List ℤ) → a ≤ length l
-    → ys ≡ replicate (length l - a) (pos 0) ++ drop (length l - a) (take (length l - a) (drop a l))
-    → put_mid a (length l - a) l ys ≡ take a l ++ replicate (length l - a) (pos 0)
-part_cleared a l ys h e =
-    let n = length l - a in
-    let gone : drop n (take n (drop a l)) ≡ [] = drop_past n (take n (drop a l))
-    (omega (arith, length-take n (drop a l))) in
-    let past : drop n (drop a l) ≡ [] = drop_past n (drop a l) (omega (arith, length-drop a l)) in
-    ap (λ t. take a l ++ t)
-    (ap (λ t. t ++ drop n (drop a l)) (e ∙ ap (λ t. replicate n (pos 0) ++ t) gone ∙ append-nil (replicate n (pos 0)))
-    ∙ ap (λ t. replicate n (pos 0) ++ t) past ∙ append-nil (replicate n (pos 0)))
-
--- two tests together
-pub both_first : (a b : Bool) → a ≡ false → (a && b) ≡ false
-both_first a b e = rw e refl
-
-pub both_second : (a b : Bool) → a ≡ true → b ≡ false → (a && b) ≡ false
-both_second a b e f = rw (e, f) refl
-
-pub both_true : (a b : Bool) → a ≡ true → b ≡ true → (a && b) ≡ true
-both_true a b e f = rw (e, f) refl

@@ -1,11 +1,12 @@
-// Values and words moved, copied and cleared.
-ghost use Rattle.std.specs.Prelude.{◌≡◌, ◌++◌, ◌+◌, ◌≤◌, length, drop, replicate, pos};
+// Values moved and copied.
+ghost use Rattle.std.specs.Prelude.{◌≡◌, ◌+◌, ◌≤◌, length};
 ghost use Rattle.std.proofs.Math.Seq.{paste};
 ghost use Rattle.words.specs.Words.{room_of, words_of, shifted};
 
 use crate::places;
 
 // The four values from place j on moved up by m places: all are read before the first is put.
+#[tactic(auto, using(crate::proofs::ShiftLoop::moved_four))]
 pub(crate) fn four(words: &mut [i64], j: usize, m: usize)
     requires { j + 4 + m ≤ room_of (length words.old) }
     ensures { words.new ≡ shifted (words_of j) (words_of (j + 4)) (words_of m) words.old }
@@ -22,6 +23,7 @@ pub(crate) fn four(words: &mut [i64], j: usize, m: usize)
 
 // The values below place e moved up by m places, the last four first, while four are left from place p on: the place
 // from which on they are moved.
+#[tactic(auto, using(crate::proofs::ShiftLoop::shifted_none, crate::proofs::ShiftLoop::shifted_join))]
 pub(crate) fn fours(words: &mut [i64], p: usize, e: usize, m: usize) -> usize
     requires { (p ≤ e) × (e + m ≤ room_of (length words.old)) }
     ensures { (p ≤ result) × (result ≤ e)
@@ -36,6 +38,7 @@ pub(crate) fn fours(words: &mut [i64], p: usize, e: usize, m: usize) -> usize
 }
 
 // The values from place p to place e moved up by m places, the last first: by fours, then the rest one by one.
+#[tactic(auto, using(crate::proofs::ShiftLoop::moved_begin, crate::proofs::ShiftLoop::moved_value))]
 pub(crate) fn shift(words: &mut [i64], p: usize, e: usize, m: usize)
     requires { (p ≤ e) × (e + m ≤ room_of (length words.old)) }
     ensures { words.new ≡ shifted (words_of p) (words_of e) (words_of m) words.old }
@@ -49,42 +52,15 @@ pub(crate) fn shift(words: &mut [i64], p: usize, e: usize, m: usize)
 }
 
 // A row of n columns put at place p. There are at most 4 columns: the loop says so, and the compiler writes it out.
+#[tactic(auto, using(crate::proofs::WordLaws::paste_value))]
 pub(crate) fn put_row(words: &mut [i64], p: usize, row: &[i64], n: usize)
     requires { (n ≤ 4) × (p + n ≤ room_of (length words.old)) × (n ≤ room_of (length row.now)) }
     ensures { words.new ≡ paste words.old (words_of p) row.now (words_of n) }
 {
-    let mut c: usize = 0;
-    while c < 4 {
+    for c in 0..4usize {
         if c >= n {
             return;
         }
-        let v = places::get(row, c);
-        places::put(words, p + c, v);
-        c += 1;
-    }
-}
-
-// The first m values of another buffer put at place p.
-pub(crate) fn put_values(words: &mut [i64], p: usize, from: &[i64], m: usize)
-    requires { (p + m ≤ room_of (length words.old)) × (m ≤ room_of (length from.now)) }
-    ensures { words.new ≡ paste words.old (words_of p) from.now (words_of m) }
-{
-    let mut j: usize = 0;
-    while j < m {
-        let v = places::get(from, j);
-        places::put(words, p + j, v);
-        j += 1;
-    }
-}
-
-// The first n words made zero.
-pub(crate) fn clear(words: &mut [i64], n: usize)
-    requires { n ≤ length words.old }
-    ensures { words.new ≡ replicate n (pos 0) ++ drop n words.old }
-{
-    let mut i: usize = 0;
-    while i < n {
-        words[i] = 0;
-        i += 1;
+        places::put(words, p + c, places::get(row, c));
     }
 }

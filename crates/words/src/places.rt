@@ -22,8 +22,6 @@ pub(crate) fn put(words: &mut [i64], p: usize, v: Value)
     requires { p < room_of (length words.old) }
     ensures { words.new ≡ with_value words.old p v }
 {
-    let num = v.num;
-    let den = v.den;
-    words[2 * p] = num;
-    words[2 * p + 1] = den;
+    words[2 * p] = v.num;
+    words[2 * p + 1] = v.den;
 }

@@ -1,5 +1,5 @@
 -- `moves::put_row` meets its contract: after c turns the first c columns are in place. Assumes nothing.
-use Prim.Native.Nat.{◌-◌, ◌≤◌}
+use Prim.Native.Nat.{◌≤◌}
 use mathlib.Core.Path.{◌≡◌}
 use lib.ListN.{length}
 use lib.Seq.{paste}
@@ -9,6 +9,3 @@ use Rattle.words.proofs.moves.put_row.Given as goal
 abbrev pub invariant-loop-c : goal.invariant-loop-c
 invariant-loop-c l =
     (l.c ≤ l.n) × (length l.words ≡ length l.initial.words) × (l.words ≡ paste l.initial.words (words_of l.p) l.row (words_of l.c))
-
-abbrev pub decreases-loop-c : goal.decreases-loop-c
-decreases-loop-c l = 4 - l.c
