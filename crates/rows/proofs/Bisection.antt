@@ -10,13 +10,15 @@ use lib.ListN.{length, get_or, take, drop}
 use Rattle.model.specs.RowSet.{insert}
 use Rattle.model.specs.Lists.{All}
 use Rattle.model.proofs.SetLaws.{Linear, Ascending, Under, turn-back}
-use Rattle.value.specs.declared.Compared.{Compared}
+use Rattle.std.specs.Prelude.{Option, None, Some, Result, Ok, Err}
+use Rattle.std.specs.declared.cmp.Ordering as compared
 use Rattle.value.specs.Exact.{tell}
 use Rattle.rows.specs.declared.Place.{Place}
 use Rattle.rows.specs.declared.Place.TheVariants as place
+use Rattle.rows.specs.declared.Fault.{Fault}
 use Rattle.rows.specs.Insertion.{lower, upper, middle, turn_of, bisect}
 use Rattle.words.proofs.Decoding.{all-at}
-use Rattle.rows.proofs.SearchLoop.{bisect-done, bisect-step, middle_below}
+use Rattle.rows.proofs.SearchLoop.{bisect_done, bisect-step, middle_below}
 
 module _ {A : Type 0} (cmp : A → A → Ordering) (d : A) where
   -- the model's insertion, where the place is known
@@ -55,12 +57,12 @@ module _ {A : Type 0} (cmp : A → A → Ordering) (d : A) where
   ascending-at (y ∷ ys) (suc i) (suc j) h k a = ascending-at ys i j (omega arith) (omega arith) a.1
 
 -- what the bisection tells of the insertion
-pub data Told {A : Type 0} (cmp : A → A → Ordering) (x : A) (s : List A) : Place → Type 0 where
-  there : {k : ℕ} → insert cmp x s ≡ s → Told cmp x s (place.There k)
-  new : {k : ℕ} → k ≤ length s → insert cmp x s ≡ take k s ++ (x ∷ drop k s) → Told cmp x s (place.New k)
+pub data Told {A : Type 0} (cmp : A → A → Ordering) (x : A) (s : List A) : Result Place Fault → Type 0 where
+  there : {k : ℕ} → insert cmp x s ≡ s → Told cmp x s (Ok (place.There k))
+  new : {k : ℕ} → k ≤ length s → insert cmp x s ≡ take k s ++ (x ∷ drop k s) → Told cmp x s (Ok (place.New k))
 
 module _ {A : Type 0} (P : A → Type 0) (cmp : A → A → Ordering) (L : Linear P cmp) (d x : A) (s : List A) (p : P x)
-    (u : All P s) (a : Ascending cmp s) (at : ℕ → Compared)
+    (u : All P s) (a : Ascending cmp s) (at : ℕ → Option compared.Ordering)
     (by : (i : ℕ) → i < length s → at i ≡ tell (cmp x (get_or s i d))) where
   pub record Split (lo hi : ℕ) : Type 0 where
     pub order : lo ≤ hi
@@ -124,7 +126,7 @@ module _ {A : Type 0} (P : A → Type 0) (cmp : A → A → Ordering) (L : Linea
 
   ended : (f lo hi : ℕ) → Split lo hi → hi ≤ lo → Told cmp x s (bisect at f lo hi)
   ended f lo hi h le =
-      rw (bisect-done at f lo hi le)
+      rw (bisect_done at f lo hi le)
       (new {k = lo} (omega (arith, h.order, h.top))
       (insert-at cmp d x s lo (omega (arith, h.order, h.top)) h.above (λ q. h.below lo le q)))
 

@@ -16,15 +16,15 @@ use Rattle.model.proofs.SetLaws.{Ascending, insert_all}
 use Rattle.model.proofs.OrderLaws.{ProperRow, linear_rows}
 use Rattle.model.proofs.WordLaws.{words-length}
 use Rattle.value.specs.Exact.{Fair}
+use Rattle.std.specs.Prelude.{Option, None, Some, Result, Ok, Err}
 use Rattle.rows.specs.declared.Place.{Place}
 use Rattle.rows.specs.declared.Place.TheVariants as place
-use Rattle.rows.specs.declared.Added.{Added}
-use Rattle.rows.specs.declared.Added.TheVariants as added
-use Rattle.rows.specs.Insertion.{at_place, bisect, fits_in, as_new, added_of, words_after}
+use Rattle.rows.specs.declared.Fault.{Fault}
+use Rattle.rows.specs.declared.Fault.TheVariants as fault
+use Rattle.rows.specs.Insertion.{at_place, bisect, fits_in, find_of, as_new, added_of, words_after}
 use Rattle.words.specs.Words.{room_of, shifted}
 use Rattle.words.specs.Encoding.{Carries, Encodes}
-use Rattle.rows.proofs.CaseLaws.{found, placed, fit_words, new-large, new-put, after-there, after-large}
-use Rattle.rows.proofs.CaseLaws.{after-new}
+use Rattle.rows.proofs.CaseLaws.{placed}
 use Rattle.rows.proofs.Bisection.{Told, there, new, bisected}
 use Rattle.rows.proofs.RowOrder.{at_row}
 
@@ -145,11 +145,11 @@ pub record Ready (n : ℕ) (l x : List ℤ) (rows : List Row) (c : Row) : Type 0
   pub rows-fair : All (All Fair) rows
   pub row-fair : All Fair c
 
-pub data Outcome (n : ℕ) (l : List ℤ) (rows : List Row) (c : Row) (a : Added) (after : List ℤ) : Type 0 where
-  kept : (k : ℕ) → a ≡ added.There k → insert order_rows c rows ≡ rows → after ≡ l → Outcome n l rows c a after
-  put : (k : ℕ) → a ≡ added.New k → length (insert order_rows c rows) ≡ length rows + 1
+pub data Outcome (n : ℕ) (l : List ℤ) (rows : List Row) (c : Row) (a : Result Place Fault) (after : List ℤ) : Type 0 where
+  kept : (k : ℕ) → a ≡ Ok (place.There k) → insert order_rows c rows ≡ rows → after ≡ l → Outcome n l rows c a after
+  put : (k : ℕ) → a ≡ Ok (place.New k) → length (insert order_rows c rows) ≡ length rows + 1
       → after ≡ set_words (insert order_rows c rows) ++ drop (2 * ((length rows + 1) * n)) l → Outcome n l rows c a after
-  large : a ≡ added.Large → length (insert order_rows c rows) ≡ 257 → after ≡ l → Outcome n l rows c a after
+  large : a ≡ Err fault.Large → length (insert order_rows c rows) ≡ 257 → after ≡ l → Outcome n l rows c a after
 
 length_split : {A : Type 0} (k : ℕ) (s : List A) (x : A) → k ≤ length s
     → length (take k s ++ (x ∷ drop k s)) ≡ length s + 1
@@ -164,40 +164,47 @@ module _ (n : ℕ) (l x : List ℤ) (rows : List Row) (c : Row) (R : Ready n l x
       bisected ProperRow order_rows linear_rows [] c rows R.row-proper R.rows-proper R.ascending (at_place n x l)
       (at_row n x l c rows R.row R.set R.row-fair R.rows-fair)
 
-  fits : fits_in n count (room_of (length l)) (room_of (length x)) ≡ true
-  fits =
-      fit_words n count (room_of (length l)) (room_of (length x)) R.some R.narrow R.few R.wide
-      ∙ le-leb (count * n) (room_of (length l)) R.holds
+  found : find_of n count l x ≡ bisect (at_place n x l) count 0 count
+  unfolding find_of fits_in
+  found =
+      simp (
+        le-leb 1 n R.some,
+        le-leb n 4 R.narrow,
+        le-leb count 256 R.few,
+        le-leb n (room_of (length x)) R.wide,
+        le-leb (count * n) (room_of (length l)) R.holds,
+      )
 
   outcome-new : (k : ℕ) → k ≤ count → insert order_rows c rows ≡ take k rows ++ (c ∷ drop k rows)
       → added_of n count l x ≡ as_new n count (room_of (length l)) k → (t : Bool) → leb 256 count ≡ t
       → Outcome n l rows c (added_of n count l x) (words_after n count l x (added_of n count l x))
+  unfolding as_new words_after
   outcome-new k h i q true t =
       let g = leb-true 256 count t in
-      let z : added_of n count l x ≡ added.Large = q ∙ new-large n count (room_of (length l)) k g in
+      let z : added_of n count l x ≡ Err fault.Large = q ∙ simp t in
       large z (ap length i ∙ length_split k rows c h ∙ (let y : count + 1 ≡ 257 = omega (arith, R.few) in y))
-      (ap (words_after n count l x) z ∙ sym (after-large n count l x))
+      (ap (words_after n count l x) z)
   outcome-new k h i q false t =
       let g = leb-false 256 count t in
-      let z : added_of n count l x ≡ added.New k = q ∙ new-put n count (room_of (length l)) k g (R.room g) in
+      let z : added_of n count l x ≡ Ok (place.New k) = q ∙ simp (t, le-leb ((count + 1) * n) (room_of (length l)) (R.room g)) in
       put k z (ap length i ∙ length_split k rows c h)
-      (ap (words_after n count l x) z ∙ sym (after-new n count l x k)
+      (ap (words_after n count l x) z
       ∙ put-words n l x rows c R.set R.row k h (omega (arith, R.room g)) (omega (arith, R.wide))
       ∙ ap (λ s. set_words s ++ drop (2 * ((count + 1) * n)) l) (sym i))
 
   pub outcome : Outcome n l rows c (added_of n count l x) (words_after n count l x (added_of n count l x))
+  unfolding words_after
   outcome = go (bisect (at_place n x l) count 0 count) refl told
     where
-      go : (p : Place) → p ≡ bisect (at_place n x l) count 0 count → Told order_rows c rows p
+      go : (p : Result Place Fault) → p ≡ bisect (at_place n x l) count 0 count → Told order_rows c rows p
           → Outcome n l rows c (added_of n count l x) (words_after n count l x (added_of n count l x))
-      go (place.There k) e (there i) =
-          let z : added_of n count l x ≡ added.There k = placed n count l x (place.There k)
-          (found n count l x fits ∙ sym e) in
-          kept k z i (ap (words_after n count l x) z ∙ sym (after-there n count l x k))
-      go (place.New k) e (new h i) =
-          outcome-new k h i (placed n count l x (place.New k) (found n count l x fits ∙ sym e)) (leb 256 count) refl
-      go place.Outside e x3 = elim x3 [ ]
-      go place.Refused e x4 = elim x4 [ ]
+      go (Ok (place.There k)) e (there i) =
+          let z : added_of n count l x ≡ Ok (place.There k) = placed n count l x (Ok (place.There k))
+          (found ∙ sym e) in
+          kept k z i (ap (words_after n count l x) z)
+      go (Ok (place.New k)) e (new h i) =
+          outcome-new k h i (placed n count l x (Ok (place.New k)) (found ∙ sym e)) (leb 256 count) refl
+      go (Err f) e x3 = elim x3 [ ]
 
 -- ---- and so the words at exit hold the model's set, unless it is too large
 prefix : (n : ℕ) (rows : List Row) (rest : List ℤ) → All (λ r. length r ≡ n) rows

@@ -3,7 +3,6 @@
 pub mod CompareLoop
 pub mod PlainLaws
 pub mod SearchLoop
-pub mod WalkLoop
 pub mod CaseLaws
 pub mod Bisection
 pub mod RowOrder

@@ -1,6 +1,6 @@
 // A value of a row, at a place that is known to be there. This is `words::read` without its test of the place: a look-up
-// reads a dozen values, and would take a third more instructions with it. Nothing else in this crate knows that a value
-// takes two words.
+// reads a dozen values, and would take a third more instructions with it; and without the test it needs a `requires`,
+// which no public function has. Nothing else in this crate knows that a value takes two words.
 ghost use Rattle.std.specs.Prelude.{◌≡◌, ◌<◌, length};
 ghost use Rattle.words.specs.Words.{room_of, value_at};
 

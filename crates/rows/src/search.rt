@@ -1,167 +1,67 @@
 // The place of a row among the rows of a set, by bisection: at most 9 rows are compared for 256 rows
-// (proofs/Cost.antt: `nine_comparisons`). Rows are compared by plain integers as long as these tell; from the first row
-// where they do not, that row again and all others are compared by exact value. The answer is the same without the
-// plain part.
-ghost use Rattle.std.specs.Prelude.{◌≡◌, ◌+◌, ◌*◌, ◌-◌, ◌<◌, ◌≤◌, length};
+// (proofs/Cost.antt: `nine_comparisons`). Rows are compared by plain integers, and where these do not tell by exact
+// value. The answer is the same without the plain part.
+ghost use Rattle.std.specs.Prelude.{◌≡◌, ◌+◌, ◌*◌, ◌≤◌, length};
 ghost use Rattle.words.specs.Words.{room_of};
-ghost use Rattle.rows.specs.Plain.{Walked};
-ghost use Rattle.rows.specs.Insertion.{is_equal, is_outside, compare_from, lower, upper, bisect, at_place, fits_in};
+ghost use Rattle.rows.specs.Plain.{PlainTo};
+ghost use Rattle.rows.specs.Insertion.{compare_from, bisect, at_place, fits_in};
 
-use crate::{Place, Walk, places, plain};
-use value::Compared;
+use crate::{Fault, Place, places, plain};
+use std::cmp::Ordering;
 
-// Both are the same value.
-pub(crate) fn is_equal(o: Compared) -> bool
-    ensures { result ≡ is_equal o }
-{
-    match o {
-        Compared::Less => false,
-        Compared::Equal => true,
-        Compared::Greater => false,
-        Compared::Outside => false,
-    }
-}
-
-// One of the two is outside the bounds of exact order.
-pub(crate) fn is_outside(o: Compared) -> bool
-    ensures { result ≡ is_outside o }
-{
-    match o {
-        Compared::Less => false,
-        Compared::Equal => false,
-        Compared::Greater => false,
-        Compared::Outside => true,
-    }
-}
-
-// The candidate row against the row at a place: the order of the first column in which they differ.
-pub(crate) fn compare_row(row: &[i64], words: &[i64], at: usize, n: usize) -> Compared
+// The candidate row against the row at a place, by exact value: the order of the first column in which they differ.
+#[tactic(auto, using(crate::proofs::CompareLoop::alike_begin, crate::proofs::CompareLoop::alike_more, crate::proofs::CompareLoop::alike_stop, crate::proofs::CompareLoop::alike_end))]
+pub(crate) fn compare_row(row: &[i64], words: &[i64], at: usize, n: usize) -> Option<Ordering>
     requires { (n ≤ room_of (length row.now)) × (at + n ≤ room_of (length words.now)) }
     ensures { result ≡ compare_from n row.now 0 words.now at }
 {
-    let mut c: usize = 0;
-    while c < n {
+    for c in 0..n {
         let o = value::order(places::get(row, c), places::get(words, at + c));
-        if !is_equal(o) {
+        if o != Some(Ordering::Equal) {
             return o;
         }
-        c += 1;
     }
-    Compared::Equal
+    Some(Ordering::Equal)
 }
 
-// The lower end after a look at row mid.
-pub(crate) fn narrow_low(o: Compared, mid: usize, lo: usize) -> usize
-    requires { mid < 1000 }
-    ensures { result ≡ lower o mid lo }
+// The same of a candidate row whose first m columns are plain: by plain integers, and by exact value where these do not
+// tell.
+pub(crate) fn compare(row: &[i64], words: &[i64], at: usize, n: usize, m: usize) -> Option<Ordering>
+    requires n_bound { (n ≤ 4) × (n ≤ room_of (length row.now)) × (at + n ≤ room_of (length words.now)) }
+    requires m_le_n { (m ≤ n) × PlainTo m row.now }
+    ensures { result ≡ compare_from n row.now 0 words.now at }
 {
-    match o {
-        Compared::Less => lo,
-        Compared::Equal => lo,
-        Compared::Greater => mid + 1,
-        Compared::Outside => lo,
-    }
-}
-
-// The upper end after a look at row mid.
-pub(crate) fn narrow_high(o: Compared, mid: usize, hi: usize) -> usize
-    ensures { result ≡ upper o mid hi }
-{
-    match o {
-        Compared::Less => mid,
-        Compared::Equal => mid,
-        Compared::Greater => hi,
-        Compared::Outside => mid,
-    }
-}
-
-// The bisection between rows from and to, by exact value.
-pub(crate) fn finish(row: &[i64], words: &[i64], n: usize, from: usize, to: usize) -> Place
-    requires n_bound { (n ≤ 4) × (from ≤ to) × (to ≤ 256) }
-    requires n_bound_2 { (n ≤ room_of (length row.now)) × (to * n ≤ room_of (length words.now)) }
-    ensures { result ≡ bisect (at_place n row.now words.now) (to - from) from to }
-{
-    let mut lo: usize = from;
-    let mut hi: usize = to;
-    while lo < hi {
-        let mid = lo + (hi - lo) / 2;
-        let o = compare_row(row, words, mid * n, n);
-        if is_equal(o) {
-            return Place::There(mid);
-        }
-        if is_outside(o) {
-            return Place::Outside;
-        }
-        hi = narrow_high(o, mid, hi);
-        lo = narrow_low(o, mid, lo);
-    }
-    Place::New(lo)
-}
-
-// The bisection between the first and the last of count rows as far as plain integers tell.
-pub(crate) fn walk(row: &[i64], words: &[i64], n: usize, count: usize) -> Walk
-    requires n_bound { (n ≤ 4) × (count ≤ 256) }
-    requires n_bound_2 { (n ≤ room_of (length row.now)) × (count * n ≤ room_of (length words.now)) }
-    ensures { Walked (at_place n row.now words.now) count result }
-{
-    let m = plain::leading(row, n);
-    let mut lo: usize = 0;
-    let mut hi: usize = count;
-    while lo < hi {
-        let mid = lo + (hi - lo) / 2;
-        let o = plain::compare(row, words, mid * n, n, m);
-        if is_equal(o) {
-            return Walk {
-                lo: mid,
-                hi: hi,
-                there: true,
-            };
-        }
-        if is_outside(o) {
-            return Walk {
-                lo: lo,
-                hi: hi,
-                there: false,
-            };
-        }
-        hi = narrow_high(o, mid, hi);
-        lo = narrow_low(o, mid, lo);
-    }
-    Walk {
-        lo: lo,
-        hi: hi,
-        there: false,
+    match plain::compare(row, words, at, n, m) {
+        Some(o) => Some(o),
+        None => compare_row(row, words, at, n),
     }
 }
 
 // The bisection between the first and the last of count rows.
-pub(crate) fn search(row: &[i64], words: &[i64], n: usize, count: usize) -> Place
+#[tactic(auto, using(crate::proofs::SearchLoop::step_none, crate::proofs::SearchLoop::step_less, crate::proofs::SearchLoop::step_equal, crate::proofs::SearchLoop::step_greater, crate::proofs::SearchLoop::bisect_done, crate::proofs::CaseLaws::place_fits), unfolding(crate::specs::Insertion::at_place))]
+pub(crate) fn search(row: &[i64], words: &[i64], n: usize, count: usize) -> Result<Place, Fault>
     requires n_bound { (n ≤ 4) × (count ≤ 256) }
     requires n_bound_2 { (n ≤ room_of (length row.now)) × (count * n ≤ room_of (length words.now)) }
     ensures { result ≡ bisect (at_place n row.now words.now) count 0 count }
 {
-    let w = walk(row, words, n, count);
-    if w.there {
-        return Place::There(w.lo);
+    let m = plain::leading(row, n);
+    let mut lo = 0;
+    let mut hi = count;
+    while lo < hi {
+        let mid = lo + (hi - lo) / 2;
+        match compare(row, words, mid * n, n, m).ok_or(Fault::Outside)? {
+            Ordering::Less => hi = mid,
+            Ordering::Equal => return Ok(Place::There(mid)),
+            Ordering::Greater => lo = mid + 1,
+        }
     }
-    finish(row, words, n, w.lo, w.hi)
+    Ok(Place::New(lo))
 }
 
 // 1 to 4 columns, at most 256 rows, and room for them and for a candidate row.
+#[tactic(auto, unfolding(crate::specs::Insertion::fits_in))]
 pub(crate) fn fits(n: usize, count: usize, words: usize, row: usize) -> bool
     ensures { result ≡ fits_in n count words row }
 {
-    if n == 0 {
-        return false;
-    }
-    if n > 4 {
-        return false;
-    }
-    if count > 256 {
-        return false;
-    }
-    if row < n {
-        return false;
-    }
-    count * n <= words
+    1 <= n && n <= 4 && count <= 256 && n <= row && count * n <= words
 }
