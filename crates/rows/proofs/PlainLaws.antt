@@ -7,11 +7,12 @@ use mathlib.Core.List.{List}
 use mathlib.Core.Path.{◌≡◌, refl, sym, ◌∙◌, ap₂, subst}
 use borrow.Author.Tests.{ltb-true, ltb-false}
 use lib.Dec.{ltb}
-use lib.IntN.{ℤ}
+use lib.IntN.{ℤ, pos, nat_abs}
 use Rattle.std.specs.Prelude.{Option, None, Some, IfSome}
 use Rattle.std.specs.Ordering.{int_cmp}
 use Rattle.std.specs.declared.cmp.Ordering.{Ordering}
 use Rattle.std.specs.declared.cmp.Ordering.TheVariants.{Less, Equal, Greater}
+use Rattle.std.proofs.lemmas.Cmp.{int_cmp_total, tied_itself}
 use Rattle.model.specs.Value.{whole}
 use Rattle.value.specs.declared.Value.{Value}
 use Rattle.value.specs.Exact.{in_words, order_of}
@@ -28,6 +29,15 @@ as_whole v p = λ j. record { num = v.num; den = sym p.whole j }
 pub plain_order : (x y : Value) {o : Ordering} → Plain x → Plain y → o ≡ int_cmp x.num y.num → order_of x y ≡ Some o
 plain_order x y p q e =
     sym (wholes_some x.num y.num e p.small q.small ∙ ap₂ order_of (as_whole x p) (as_whole y q))
+
+-- a plain value equals another of denominator 1 and the same numerator, which so is plain too
+pub plain_equal : (x y : Value) → Plain x → y.den ≡ pos 1 → x.num ≡ y.num → order_of x y ≡ Some Equal
+plain_equal x y p d e =
+    plain_order x y p (record { whole = d; small = subst (λ z. nat_abs z ≤ 1000000000000000) e p.small })
+    (sym equal)
+  where
+    equal : int_cmp x.num y.num ≡ Equal
+    equal = rw e (tied_itself int_cmp_total y.num)
 
 -- ---- the plain columns before the first that is not
 pub plain_none : (x : List ℤ) → PlainTo 0 x

@@ -34,15 +34,21 @@ pub(crate) fn leading(row: &[i64], n: usize) -> usize
 }
 
 // The order of a plain value and another; None where the other is not plain.
-#[tactic(auto, using(crate::proofs::PlainLaws::plain_order))]
+#[tactic(auto, using(crate::proofs::PlainLaws::plain_order, crate::proofs::PlainLaws::plain_equal))]
 pub(crate) fn order(x: Value, y: Value) -> Option<Ordering>
     requires { Plain x }
     ensures { IfSome result (λ o. order_of x y ≡ Some o) }
 {
+    if y.den == 1 && x.num == y.num {
+        return Some(Ordering::Equal);
+    }
     if !is_plain(y) {
         return None;
     }
-    Some(x.num.cmp(&y.num))
+    if x.num < y.num {
+        return Some(Ordering::Less);
+    }
+    Some(Ordering::Greater)
 }
 
 // The candidate row, whose first m columns are plain, against the row at a place. There are at most 4 columns: the loop
