@@ -18,7 +18,7 @@ use chart::Relation;
 use std::cmp::Ordering;
 
 // The largest numerator in size inside the bounds.
-const LARGEST: u64 = 1000000000000000;
+const LARGEST: i64 = 1000000000000000;
 
 // A value: num / den; absent: 0 / 0.
 #[derive(Clone, Copy)]
@@ -57,7 +57,7 @@ pub fn inside(x: Value) -> bool
     if !present(x) {
         return x.num == 0;
     }
-    x.num.unsigned_abs() <= LARGEST && (1..=256).contains(&x.den)
+    (-LARGEST..=LARGEST).contains(&x.num) && (1..=256).contains(&x.den)
 }
 
 // The order of n / d and m / e, by cross products.
@@ -87,7 +87,7 @@ fn order_inside(x: Value, y: Value) -> Ordering
 fn order_wholes(n: i64, m: i64) -> Option<Ordering>
     ensures { result ≡ order_of (in_words (whole n)) (in_words (whole m)) }
 {
-    if n.unsigned_abs() > LARGEST || m.unsigned_abs() > LARGEST {
+    if !(-LARGEST..=LARGEST).contains(&n) || !(-LARGEST..=LARGEST).contains(&m) {
         return None;
     }
     Some(n.cmp(&m))
@@ -161,7 +161,7 @@ pub fn average(sum: i64, count: u64) -> Option<Value>
     if count == 0 {
         return Some(absent());
     }
-    if count > 256 || sum.unsigned_abs() > 256 * LARGEST {
+    if count > 256 || !(-256 * LARGEST..=256 * LARGEST).contains(&sum) {
         return None;
     }
     Some(lowest(sum, count))
