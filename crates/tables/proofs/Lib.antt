@@ -1,4 +1,3 @@
-pub mod Signs
 pub mod PlaceLaws
 pub mod DataLaws
 pub mod LaidLaws

@@ -1,6 +1,7 @@
 -- The place of a table: its sum, kept within the slice, reads the same words.
 --   first-begin, first_next, first-within   the loop that adds up the tables
 --   beyond                               a place past the end reads 0
+--   value_behind                         a column begins with its first cell
 --   value_cell                           a value in a column is the model's cell
 use Prim.Native.Nat.{ℕ, suc, ◌+◌, ◌*◌, ◌<◌, ◌≤◌, min}
 use native.Mathlib.Nat.{mul-le-mul}
@@ -8,33 +9,23 @@ use native.Mathlib.Numerals.{add-one}
 use native.Mathlib.Omega.{arith}
 use mathlib.Core.Bool.{Bool, true, false}
 use mathlib.Core.List.{List}
-use mathlib.Core.Path.{◌≡◌, refl, sym, ◌∙◌, ap, ap₂}
+use mathlib.Core.Path.{◌≡◌, refl, sym, ◌∙◌, ap}
 use borrow.Author.Tests.{ltb-true, ltb-false}
 use lib.Dec.{ltb}
 use lib.IntN.{ℤ, pos}
-use lib.ListN.{length, get_or-eq_default}
+use lib.ListN.{length, drop, get_or-eq_default}
 use Rattle.model.specs.Tables.{word, tables, columns, rows, table_at, row_step, column_step, cell}
 use Rattle.model.proofs.TableEquations.{cells_before-first, cells_before_next, table_at_is}
 use Rattle.model.proofs.TableEquations.{cell_is, row_step_is, column_step_is}
-use Rattle.tables.specs.Places.{first_cell, place_of, column_of, value_in}
+use Rattle.tables.specs.Places.{first_cell, place_of, column_of, from_start, value_in}
+use Rattle.std.proofs.lemmas.Grind.{common_steps}
 use Rattle.tables.specs.declared.Column.{Column}
 use Rattle.tables.specs.declared.Place.{Place}
-
--- two counts have a product that fits
-pub area_small : (a b : ℕ) → a < 2147483648 → b < 2147483648 → a * b ≤ 4611686018427387904
-area_small a b h k =
-    let p : a ≤ 2147483648 = omega arith in let q : b ≤ 2147483648 = omega arith in mul-le-mul p q
 
 -- a row number and a step: their product fits
 pub step_small : (r s : ℕ) → r < 65536 → s < 4294967296 → r * s ≤ 281474976710656
 step_small r s h k =
     let p : r ≤ 65536 = omega arith in let q : s ≤ 4294967296 = omega arith in mul-le-mul p q
-
-pub columned : (p : Place) (w : ℕ) (d : List ℤ) (t c : ℕ) → p ≡ place_of d t → w ≡ c
-    → ◌≡◌ {A = Column} (record { first = p.base + w * p.across; step = p.down }) (column_of (place_of d t) c)
-unfolding column_of
-columned p w d t c e f =
-    ap₂ (λ (q : Place) (x : ℕ). column_of q x) e f
 
 module _ (d : List ℤ) where
   pub first-begin : min (1 + 2 * tables d) (length d + 1) ≡ first_cell d 0
@@ -66,6 +57,11 @@ module _ (d : List ℤ) where
           let l = ltb-false (length d) (table_at d t) e in
           ap (λ i. word d (i + x)) (let h : min (table_at d t) (length d + 1) ≡ table_at d t = omega arith in h)
 
+  -- the slice from the column's first cell on holds the column
+  pub value_behind : (k : Column) (r : ℕ) → value_in (drop k.first d) (from_start k.step) r ≡ value_in d k r
+  unfolding value_in
+  value_behind k r = grind (arith, common_steps)
+
   pub value_cell : (t c r : ℕ) → value_in d (column_of (place_of d t) c) r ≡ cell d t r c
   unfolding value_in column_of place_of
   value_cell t c r =
@@ -81,6 +77,6 @@ module _ (d : List ℤ) where
   unfolding place_of
   placed t base down e f = cc (row_step_is d t, column_step_is d t)
 
-  pub place-within : (p : Place) (t : ℕ) → p ≡ place_of d t → p.base ≤ length d + 1
+  pub base_within : (t : ℕ) → (place_of d t).base ≤ length d + 1
   unfolding place_of
-  place-within p t e = rw (ap (λ q. q.base) e) (first-within t)
+  base_within t = first-within t
