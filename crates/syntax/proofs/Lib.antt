@@ -7,3 +7,4 @@ pub mod Runs
 pub mod Blocks
 pub mod Lie
 pub mod Whole
+pub mod WalkLaws

@@ -3,12 +3,16 @@
 // bytes past the end read 0.
 #![tactic(auto)]
 
+mod walks;
+
 ghost use Rattle.std.specs.Prelude.{◌≡◌, true, ◌&&◌, ℕ, ◌+◌, ◌*◌, ◌-◌, ◌%◌, ◌≤◌, ◌<◌, length, get_or};
 ghost use Rattle.model.specs.Records as model;
 ghost use Rattle.syntax.specs.Places.{item_at, head_at, byte_at, left, word_at, takes, five_zeros, argument_ok, element_ok};
 ghost use Rattle.syntax.specs.Places.{elements_ok, is_mark, head_of, entries_of, head_ok, record_end, record_ok, run};
 ghost use Rattle.syntax.specs.Places.{runs, block, block_within, put, walk, no_block, no_question, reading};
 ghost use Rattle.syntax.specs.Places.{condition_end, well_formed};
+
+pub use walks::{Places, each_element};
 
 // An element of the question: its kind, its argument as a number, and the argument's first three bytes.
 #[derive(Clone, Copy)]
