@@ -1,36 +1,30 @@
 -- One turn of each walk over plain values: what is counted after it, and what a walk that stops leaves uncounted.
-use Prim.Native.Nat.{ℕ, zero, suc, ◌+◌, ◌-◌, ◌≤◌, ◌<◌}
+use Prim.Native.Nat.{ℕ, zero, suc, ◌+◌, ◌≤◌, ◌<◌}
 use native.Mathlib.Omega.{arith}
 use mathlib.Core.Bool.{Bool, true, false, ◌&&◌, ◌||◌}
 use mathlib.Core.List.{List, [], ◌∷◌, ◌++◌, map}
-use mathlib.Core.Logic.{◌⊎◌, inl, inr, ⊎_elim}
+use mathlib.Core.Logic.{⊎_elim}
 use mathlib.Core.Path.{◌≡◌, refl, sym, ap, ap₂, ◌∙◌}
 use lib.Dec.{eqb, ltb, leb}
 use native.Mathlib.Numerals.{add-one}
-use lib.ListN.{length, get_or, set, take, drop}
+use lib.ListN.{length, get_or, set, take, drop, replicate}
 use lib.Seq.{drop-nil}
-use borrow.Author.Tests.{lt-ltb, le-ltb, lt-leb, le-leb, ltb-true, ltb-false}
+use borrow.Author.Tests.{lt-ltb, le-ltb, lt-leb, le-leb, ltb-true}
 use Rattle.model.specs.Checks.{from_to}
 use Rattle.model.specs.Lists.{concat_map}
-use Rattle.model.specs.Question.{Element, other_elements}
-use Rattle.syntax.proofs.Conditions.{past-stays, conditions_next}
+use Rattle.model.specs.Question.{Element, empty, Condition, other_elements}
+use Rattle.syntax.proofs.WalkLaws.{walk_done, elements_walk, conditions_walk}
+use Rattle.syntax.specs.Walks.{end_of, element_places, condition_places}
+use Rattle.syntax.specs.declared.walks.Walked.TheVariants.{Elements, Conditions}
 use Rattle.syntax.proofs.Elements.{le-or}
-use Rattle.syntax.proofs.Laws.{byte_past, both, on}
+use Rattle.syntax.proofs.Laws.{both}
 use Rattle.syntax.specs.Described.{decode, element_at, elements_at, condition_at, conditions_at, described, blocks_in}
-use Rattle.syntax.specs.Places.{byte_at, word_at, condition_end, no_block}
+use Rattle.syntax.specs.Places.{byte_at, word_at, no_block}
 use Rattle.syntax.specs.declared.Block.{Block}
 use Rattle.syntax.specs.declared.Question.{Question}
 use Rattle.limits.specs.Limits.{others_in, few_named, within_in}
 use Rattle.limits.specs.Tally.{bump, tally_of, tally_all, sides}
 use Rattle.limits.specs.declared.Tally.{Tally}
-
--- a walk goes on while some are left and the place is in the bytes
-pub going : (n i l : ℕ) → ltb 0 n && ltb i l ≡ true → (0 < n) × (i < l)
-going n i l e = let b = both (ltb 0 n) (ltb i l) e in (ltb-true 0 n b.0, ltb-true i l b.1)
-
-pub stopped : (n i l : ℕ) → ltb 0 n && ltb i l ≡ false → (n ≤ 0) ⊎ (l ≤ i)
-stopped n i l e =
-    on (ltb 0 n) (λ a. inr (ltb-false i l (rw a at e))) (λ a. inl (ltb-false 0 n a))
 
 -- one more aggregate of block k, whose counter stands at i: of a block that has fewer than four, of one that has four
 pub bump_more : (t : Tally) (k i : ℕ) → i ≡ k → get_or t.counts i 0 < 4
@@ -71,56 +65,47 @@ module _ (bs : List ℕ) where
   other t i h =
       decode-other t (byte_at bs i) (word_at bs (i + 1)) (byte_at bs (i + 1)) (byte_at bs (i + 2)) (byte_at bs (i + 3)) h
 
-  -- past the end every element is empty
-  pub past : (t : Tally) (i : ℕ) → length bs ≤ i → tally_of t (element_at bs i) ≡ t
-  past t i h = sym (other t i (let e = byte_past bs i h in omega arith))
-
-  pub elements_turn : (t : Tally) (n i : ℕ) → 0 < n
-      → tally_all t (elements_at bs n i) ≡ tally_all (tally_of t (element_at bs i)) (elements_at bs (n - 1) (i + 9))
-  unfolding tally_all elements_at
-  elements_turn t zero i h = absurd (omega arith)
-  elements_turn t (suc n) i h = let p : suc n - 1 ≡ n = omega arith in simp p
-
-  elements-past : (t : Tally) (n i : ℕ) → length bs ≤ i → tally_all t (elements_at bs n i) ≡ t
-  unfolding tally_all elements_at
-  elements-past t zero i h = refl
-  elements-past t (suc n) i h =
-      ap (λ u. tally_all u (elements_at bs n (i + 9))) (past t i h) ∙ elements-past t n (i + 9) (omega arith)
-
-  pub elements_done : (t : Tally) (n i : ℕ) → ltb 0 n && ltb i (length bs) ≡ false → tally_all t (elements_at bs n i) ≡ t
-  unfolding tally_all elements_at
-  elements_done t zero i e = refl
-  elements_done t (suc n) i e =
-      ⊎_elim (λ h. absurd (omega arith)) (λ h. elements-past t (suc n) i h) (stopped (suc n) i (length bs) e)
-
-  pub conditions-turn : (t : Tally) (n i : ℕ) → 0 < n
-      → tally_all t (concat_map sides (conditions_at bs n i))
-      ≡ tally_all (tally_of (tally_of t (element_at bs (i + 3))) (element_at bs (i + 12)))
-      (concat_map sides (conditions_at bs (n - 1) (condition_end bs i)))
-  unfolding tally_all condition_at concat_map
-  conditions-turn t n i h = ap (λ l. tally_all t (concat_map sides l)) (conditions_next bs n i h)
-
-  conditions-past : (t : Tally) (n i : ℕ) → length bs ≤ i → tally_all t (concat_map sides (conditions_at bs n i)) ≡ t
-  unfolding tally_all conditions_at concat_map
-  conditions-past t zero i h = refl
-  conditions-past t (suc n) i h =
-      conditions-turn t (suc n) i (omega arith)
-      ∙ (let p : suc n - 1 ≡ n = omega arith in
-      rw (p, past t (i + 3) (omega arith), past t (i + 12) (omega arith))
-      (conditions-past t n (condition_end bs i) (past-stays bs i h)))
-
-  pub conditions-done : (t : Tally) (n i : ℕ) → ltb 0 n && ltb i (length bs) ≡ false
-      → tally_all t (concat_map sides (conditions_at bs n i)) ≡ t
-  unfolding tally_all conditions_at concat_map
-  conditions-done t zero i e = refl
-  conditions-done t (suc n) i e =
-      ⊎_elim (λ h. absurd (omega arith)) (λ h. conditions-past t (suc n) i h) (stopped (suc n) i (length bs) e)
-
 -- a list counted, and what follows it
 pub tally_append : (t : Tally) (l r : List Element) → tally_all t (l ++ r) ≡ tally_all (tally_all t l) r
 unfolding tally_all
 tally_append t [] r = refl
 tally_append t (e ∷ l) r = tally_append (tally_of t e) l r
+
+-- empty elements count nothing
+empties : (t : Tally) (k : ℕ) → tally_all t (replicate k empty) ≡ t
+unfolding tally_all
+empties t zero = refl
+empties t (suc k) = empties t k
+
+-- nor do conditions of two empty elements, after others
+empties_after : (t : Tally) (l : List Condition) (k : ℕ)
+    → tally_all t (concat_map sides (l ++ replicate k (record { operator = 0; left = empty; right = empty })))
+    ≡ tally_all t (concat_map sides l)
+unfolding tally_all concat_map
+empties_after t [] zero = refl
+empties_after t [] (suc k) = empties_after t [] k
+empties_after t (c ∷ l) k = empties_after (tally_of (tally_of t c.left) c.right) l k
+
+module _ (bs : List ℕ) (t : Tally) (n i : ℕ) where
+  pub elements_counted : tally_all t (map (element_at bs) (element_places bs n i)) ≡ tally_all t (elements_at bs n i)
+  elements_counted =
+      let w = elements_walk bs n i in
+      rw w.1 (sym (tally_append t (map (element_at bs) (element_places bs n i)) (replicate w.0 empty)
+      ∙ empties _ w.0))
+
+  pub conditions_counted : tally_all t (concat_map sides (map (condition_at bs) (condition_places bs n i)))
+      ≡ tally_all t (concat_map sides (conditions_at bs n i))
+  conditions_counted = let w = conditions_walk bs n i in rw w.1 (sym (empties_after t _ w.0))
+
+-- where a walk stops nothing is left to count
+module _ (bs : List ℕ) (t : Tally) (n i : ℕ) (e : ltb 0 n && ltb i (length bs) ≡ false) where
+  pub elements_done : tally_all t (elements_at bs n i) ≡ t
+  unfolding tally_all
+  elements_done = let d = walk_done (end_of Elements bs) bs n i (grind arith) in sym (rw d at (elements_counted bs t n i))
+
+  pub conditions-done : tally_all t (concat_map sides (conditions_at bs n i)) ≡ t
+  unfolding tally_all concat_map
+  conditions-done = let d = walk_done (end_of Conditions bs) bs n i (grind arith) in sym (rw d at (conditions_counted bs t n i))
 
 -- a block's conditions counted, and then its output list
 pub block_is : (bs : List ℕ) (b : Block) (t y r : Tally)

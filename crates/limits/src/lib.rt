@@ -11,7 +11,7 @@ ghost use Rattle.syntax.specs.Described.{element_at, elements_at, conditions_at,
 ghost use Rattle.limits.specs.Limits.{others_in, within_in};
 ghost use Rattle.limits.specs.Tally.{no_tally, bump, tally_of, tally_all, sides};
 
-use syntax::{Block, Question, byte_at, condition_end};
+use syntax::{Block, Question, byte_at, each_condition, each_element};
 
 // How many aggregates name each block number, counted to 4, and whether four name one.
 #[derive(Clone, Copy)]
@@ -66,31 +66,25 @@ fn count_at(s: &[u8], at: usize, t: Tally) -> Tally
 }
 
 // n elements from a place on counted. Those past the end are empty: the walk stops where the bytes end.
+#[tactic(auto, using(crate::proofs::Steps::elements_counted), unfolding(crate::specs::Tally::tally_all))]
 fn count_elements(s: &[u8], at: usize, n: usize, t: Tally) -> Tally
     ensures { result ≡ tally_all t (elements_at s.now n at) }
 {
     let mut y = t;
-    let mut i = at;
-    let mut more = n;
-    while (more > 0) & (i < s.len()) {
+    for i in each_element(s, at, n) {
         y = count_at(s, i, y);
-        i += 9;
-        more -= 1;
     }
     y
 }
 
 // The two elements of n conditions from a place on counted.
+#[tactic(auto, using(crate::proofs::Steps::conditions_counted), unfolding(crate::specs::Tally::tally_all, model::specs::Lists::concat_map, syntax::specs::Described::condition_at))]
 fn count_conditions(s: &[u8], at: usize, n: usize, t: Tally) -> Tally
     ensures { result ≡ tally_all t (concat_map sides (conditions_at s.now n at)) }
 {
     let mut y = t;
-    let mut i = at;
-    let mut more = n;
-    while (more > 0) & (i < s.len()) {
+    for i in each_condition(s, at, n) {
         y = count_at(s, i + 12, count_at(s, i + 3, y));
-        i = condition_end(s, i);
-        more -= 1;
     }
     y
 }

@@ -30,7 +30,7 @@ use borrow.Author.Tests.{ne_eqb}
 use Rattle.model.specs.Question as model
 use Rattle.model.specs.Records as records
 
-relations_are : (bs : List ℕ) (n i : ℕ) → relations_at bs n i ≡ list_at (relation_at bs) (record_end 0 bs) n i
+pub relations_are : (bs : List ℕ) (n i : ℕ) → relations_at bs n i ≡ list_at (relation_at bs) (record_end 0 bs) n i
 unfolding relations_at list_at
 relations_are bs zero i = refl
 relations_are bs (suc n) i = ap (λ l. relation_at bs i ∷ l) (relations_are bs n (record_end 0 bs i))
@@ -55,7 +55,7 @@ conditions_step bs n i =
     (λ h. ap (list_at (condition_at bs) (record_end 1 bs) n) (end-within bs i h))
     (le-or (length bs) i)
 
-conditions_are : (bs : List ℕ) (n i : ℕ) → conditions_at bs n i ≡ list_at (condition_at bs) (record_end 1 bs) n i
+pub conditions_are : (bs : List ℕ) (n i : ℕ) → conditions_at bs n i ≡ list_at (condition_at bs) (record_end 1 bs) n i
 unfolding conditions_at list_at
 conditions_are bs zero i = refl
 conditions_are bs (suc n) i =

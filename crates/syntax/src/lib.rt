@@ -12,7 +12,7 @@ ghost use Rattle.syntax.specs.Places.{elements_ok, is_mark, head_of, entries_of,
 ghost use Rattle.syntax.specs.Places.{runs, block, block_within, put, walk, no_block, no_question, reading};
 ghost use Rattle.syntax.specs.Places.{condition_end, well_formed};
 
-pub use walks::{Places, each_element};
+pub use walks::{Places, each_condition, each_element, each_relation};
 
 // An element of the question: its kind, its argument as a number, and the argument's first three bytes.
 #[derive(Clone, Copy)]

@@ -1,14 +1,17 @@
 -- `limits::count_conditions` meets its contract. The loop's invariant: the conditions left, counted after those passed,
--- give the whole. Where the bytes end the elements left are empty.
+-- give the whole.
+use mathlib.Core.List.{map}
 use mathlib.Core.Path.{◌≡◌}
-use Rattle.model.specs.Lists.{concat_map}
-use Rattle.syntax.specs.Described.{conditions_at}
+use Prim.Native.Nat.{◌<◌}
+use lib.ListN.{length}
+use Rattle.model.specs.Lists.{All, concat_map}
+use Rattle.syntax.specs.Described.{condition_at, conditions_at}
+use Rattle.syntax.specs.Walks.{to_come}
 use Rattle.limits.specs.Tally.{tally_all, sides}
 use Rattle.limits.proofs.count_conditions.Given as goal
 
-abbrev pub invariant-loop-more : goal.invariant-loop-more
-invariant-loop-more l =
-    tally_all l.y (concat_map sides (conditions_at l.s l.more l.i)) ≡ tally_all l.initial.y (concat_map sides (conditions_at l.s l.n l.at))
-
-abbrev pub decreases-loop-more : goal.decreases-loop-more
-decreases-loop-more l = l.more
+abbrev pub invariant-loop-i : goal.invariant-loop-i
+invariant-loop-i l =
+    All (λ j. j < length l.s) (to_come l.i-iterator)
+    × (tally_all l.y (concat_map sides (map (condition_at l.s) (to_come l.i-iterator)))
+    ≡ tally_all l.initial.y (concat_map sides (conditions_at l.s l.n l.at)))

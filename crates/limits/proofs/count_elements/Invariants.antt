@@ -1,12 +1,16 @@
 -- `limits::count_elements` meets its contract. The loop's invariant: the elements left, counted after those passed,
--- give the whole. Where the bytes end the elements left are empty.
+-- give the whole.
+use mathlib.Core.List.{map}
 use mathlib.Core.Path.{◌≡◌}
-use Rattle.syntax.specs.Described.{elements_at}
+use Prim.Native.Nat.{◌<◌}
+use lib.ListN.{length}
+use Rattle.model.specs.Lists.{All}
+use Rattle.syntax.specs.Described.{element_at, elements_at}
+use Rattle.syntax.specs.Walks.{to_come}
 use Rattle.limits.specs.Tally.{tally_all}
 use Rattle.limits.proofs.count_elements.Given as goal
 
-abbrev pub invariant-loop-more : goal.invariant-loop-more
-invariant-loop-more l = tally_all l.y (elements_at l.s l.more l.i) ≡ tally_all l.initial.y (elements_at l.s l.n l.at)
-
-abbrev pub decreases-loop-more : goal.decreases-loop-more
-decreases-loop-more l = l.more
+abbrev pub invariant-loop-i : goal.invariant-loop-i
+invariant-loop-i l =
+    All (λ j. j < length l.s) (to_come l.i-iterator)
+    × (tally_all l.y (map (element_at l.s) (to_come l.i-iterator)) ≡ tally_all l.initial.y (elements_at l.s l.n l.at))
