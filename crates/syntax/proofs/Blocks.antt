@@ -14,6 +14,8 @@ use Rattle.syntax.specs.Places.{elements_ok, byte_at, head_ok, record_end, condi
 use Rattle.syntax.specs.Places.{block}
 use Rattle.syntax.specs.declared.Block.{Block}
 use Rattle.syntax.specs.declared.Run.{Run}
+use Rattle.syntax.specs.declared.Record.{Record}
+use Rattle.syntax.specs.declared.Record.TheVariants.{Rw, Cd, Ol, Bk}
 use Rattle.model.proofs.FormatEquations.{after_none, after-some, only-fails}
 use Rattle.model.proofs.RecordEquations.{one-there, one-missing, block-nil, block_read}
 use Rattle.model.specs.Format.{Parser, after, only, relation, condition, output}
@@ -30,32 +32,32 @@ use borrow.Author.Tests.{ne_eqb}
 use Rattle.model.specs.Question as model
 use Rattle.model.specs.Records as records
 
-pub relations_are : (bs : List ℕ) (n i : ℕ) → relations_at bs n i ≡ list_at (relation_at bs) (record_end 0 bs) n i
+pub relations_are : (bs : List ℕ) (n i : ℕ) → relations_at bs n i ≡ list_at (relation_at bs) (record_end Rw bs) n i
 unfolding relations_at list_at
 relations_are bs zero i = refl
-relations_are bs (suc n) i = ap (λ l. relation_at bs i ∷ l) (relations_are bs n (record_end 0 bs i))
+relations_are bs (suc n) i = ap (λ l. relation_at bs i ∷ l) (relations_are bs n (record_end Rw bs i))
 
 -- past the end the conditions that follow are the same from every place
 conditions_beyond : (bs : List ℕ) (n i j : ℕ) → length bs ≤ i → length bs ≤ j
-    → list_at (condition_at bs) (record_end 1 bs) n i ≡ list_at (condition_at bs) (record_end 1 bs) n j
+    → list_at (condition_at bs) (record_end Cd bs) n i ≡ list_at (condition_at bs) (record_end Cd bs) n j
 unfolding list_at
 conditions_beyond bs zero i j h k = refl
 conditions_beyond bs (suc n) i j h k =
     ap₂ ◌∷◌ (condition_past bs i h ∙ sym (condition_past bs j k))
-    (conditions_beyond bs n (record_end 1 bs i) (record_end 1 bs j) (omega (arith, end_is 1 bs i))
-    (omega (arith, end_is 1 bs j)))
+    (conditions_beyond bs n (record_end Cd bs i) (record_end Cd bs j) (omega (arith, end_is Cd bs i))
+    (omega (arith, end_is Cd bs j)))
 
 conditions_step : (bs : List ℕ) (n i : ℕ)
-    → list_at (condition_at bs) (record_end 1 bs) n (condition_end bs i)
-    ≡ list_at (condition_at bs) (record_end 1 bs) n (record_end 1 bs i)
+    → list_at (condition_at bs) (record_end Cd bs) n (condition_end bs i)
+    ≡ list_at (condition_at bs) (record_end Cd bs) n (record_end Cd bs i)
 conditions_step bs n i =
     ⊎_elim
-    (λ h. conditions_beyond bs n (condition_end bs i) (record_end 1 bs i) (past-stays bs i h)
-    (omega (arith, end_is 1 bs i)))
-    (λ h. ap (list_at (condition_at bs) (record_end 1 bs) n) (end-within bs i h))
+    (λ h. conditions_beyond bs n (condition_end bs i) (record_end Cd bs i) (past-stays bs i h)
+    (omega (arith, end_is Cd bs i)))
+    (λ h. ap (list_at (condition_at bs) (record_end Cd bs) n) (end-within bs i h))
     (le-or (length bs) i)
 
-pub conditions_are : (bs : List ℕ) (n i : ℕ) → conditions_at bs n i ≡ list_at (condition_at bs) (record_end 1 bs) n i
+pub conditions_are : (bs : List ℕ) (n i : ℕ) → conditions_at bs n i ≡ list_at (condition_at bs) (record_end Cd bs) n i
 unfolding conditions_at list_at
 conditions_are bs zero i = refl
 conditions_are bs (suc n) i =
@@ -69,11 +71,11 @@ module _ (bs : List ℕ) where
   f = length bs
 
   -- a record whose mark does not stand there
-  pub not_there : (r i : ℕ) → r < 5 → marked (mark_of r) (drop i bs) ≡ false → record_ok r bs i ≡ false
-  not_there r i h e = on (record_ok r bs i) (λ t. not-true (sym e ∙ record-marked bs r i h t)) (λ t. t)
+  pub not_there : (r : Record) (i : ℕ) → marked (mark_of r) (drop i bs) ≡ false → record_ok r bs i ≡ false
+  not_there r i e = on (record_ok r bs i) (λ t. not-true (sym e ∙ record-marked bs r i t)) (λ t. t)
 
   -- a run of records from place i on: all read, or stopped before a malformed one
-  module _ {A : Type 0} (r : ℕ) (here : r < 5) (p : Parser A) (val : ℕ → A)
+  module _ {A : Type 0} (r : Record) (p : Parser A) (val : ℕ → A)
       (reads : (i : ℕ) → marked (mark_of r) (drop i bs) ≡ true
       → p (drop 2 (drop i bs)) ≡ only (record_ok r bs i) (val i) (drop (record_end r bs i) bs)) where
     abbrev pub RunRead : ℕ → Type 0
@@ -84,7 +86,7 @@ module _ (bs : List ℕ) where
 
     pub run-read : (i : ℕ) → RunRead i
     run-read i =
-        go (many-run (mark_of r) p bs (record_ok r bs) val (record_end r bs) reads (λ j. record-marked bs r j here) f i)
+        go (many-run (mark_of r) p bs (record_ok r bs) val (record_end r bs) reads (λ j. record-marked bs r j) f i)
       where
         k : ℕ
         k = count_from (record_ok r bs) (record_end r bs) f i
@@ -95,13 +97,13 @@ module _ (bs : List ℕ) where
         count_is : (runs r bs i).count ≡ k
         count_is = ap (λ (x : Run). x.count) (run_is f r bs 0 i) ∙ (let e : 0 + k ≡ k = omega arith in e)
 
-        go : Many (mark_of r) p bs (record_ok r bs) val (record_end r bs) reads (λ j. record-marked bs r j here) f i
+        go : Many (mark_of r) p bs (record_ok r bs) val (record_end r bs) reads (λ j. record-marked bs r j) f i
             → RunRead i
         go (all_read h) = inl (rw (at-is, count_is) h)
         go (broken h m) = inr (h, rw at-is m)
 
   -- where no record stands, its run is empty
-  run-empty : (r i : ℕ) → record_ok r bs i ≡ false → runs r bs i ≡ record { at = i; count = 0 }
+  run-empty : (r : Record) (i : ℕ) → record_ok r bs i ≡ false → runs r bs i ≡ record { at = i; count = 0 }
   run-empty r i e = run_done f r bs 0 i e
 
   -- a block after its mark
@@ -113,21 +115,21 @@ module _ (bs : List ℕ) where
     Reads = records.block f (drop (i + 2) bs) ≡ only stands (described bs (block bs i)) (drop (block bs i).end bs)
 
     abbrev r : Run
-    r = runs 0 bs (i + 3)
+    r = runs Rw bs (i + 3)
 
     abbrev c : Run
-    c = runs 1 bs r.at
+    c = runs Cd bs r.at
 
     none_read : block bs i ≡ no_block → records.block f (drop (i + 2) bs) ≡ none → Reads
     none_read b h = h ∙ sym (rw b (only-fails false _ _ refl))
 
-    head-stands : i + 3 ≤ length bs → record_ok 3 bs i ≡ true
+    head-stands : i + 3 ≤ length bs → record_ok Bk bs i ≡ true
     unfolding head_ok elements_ok record_end
     head-stands h =
-        rw (record_whole 3 bs i (omega arith) (omega arith), head_is bs 3 i (omega arith) e) refl
+        rw (record_whole Bk bs i (omega arith) (omega arith), head_is bs Bk i e) refl
 
     -- no output list where the run of conditions ends: no block
-    no_output : i + 3 ≤ length bs → record_ok 2 bs c.at ≡ false → block bs i ≡ no_block
+    no_output : i + 3 ≤ length bs → record_ok Ol bs c.at ≡ false → block bs i ≡ no_block
     no_output h o = block_is bs i (head-stands h) ∙ with_bare bs i r c o
 
     abbrev third : List RelationRow → List Condition → Parser model.Block
@@ -160,10 +162,10 @@ module _ (bs : List ℕ) where
               c.count;
           outputs_at = c.at + 3;
           outputs = byte_at bs (c.at + 2);
-          end = record_end 2 bs c.at;
+          end = record_end Ol bs c.at;
         }
 
-    whole_is : i + 3 ≤ length bs → record_ok 2 bs c.at ≡ true → block bs i ≡ whole
+    whole_is : i + 3 ≤ length bs → record_ok Ol bs c.at ≡ true → block bs i ≡ whole
     unfolding whole
     whole_is h o = block_is bs i (head-stands h) ∙ rw o refl
 
@@ -177,14 +179,14 @@ module _ (bs : List ℕ) where
               elements_at bs (byte_at bs (c.at + 2)) (c.at + 3);
         }
 
-    by-record : i + 3 ≤ length bs → (t : Bool) → record_ok 2 bs c.at ≡ t
-        → only t output-of (drop (record_end 2 bs c.at) bs) ≡ only stands (described bs (block bs i))
+    by-record : i + 3 ≤ length bs → (t : Bool) → record_ok Ol bs c.at ≡ t
+        → only t output-of (drop (record_end Ol bs c.at) bs) ≡ only stands (described bs (block bs i))
         (drop (block bs i).end bs)
     unfolding described whole rows conditions
     by-record h true o =
         rw (whole_is h o)
-        (let n : eqb (record_end 2 bs c.at) 0 ≡ false =
-        ne_eqb (record_end 2 bs c.at) 0 (λ z. let g = end_is 2 bs c.at in omega arith) in
+        (let n : eqb (record_end Ol bs c.at) 0 ≡ false =
+        ne_eqb (record_end Ol bs c.at) 0 (λ z. let g = end_is Ol bs c.at in omega arith) in
         rw n refl)
     by-record h false o = only-fails false _ _ refl ∙ sym (rw (no_output h o) (only-fails false _ _ refl))
 
@@ -192,28 +194,28 @@ module _ (bs : List ℕ) where
         → third rows conditions (drop c.at bs) ≡ only stands (described bs (block bs i)) (drop (block bs i).end bs)
     by-output h true m =
         rw (one-there OL output (drop c.at bs) m, output-reads bs c.at m)
-        (only-pass (record_ok 2 bs c.at) (elements_at bs (byte_at bs (c.at + 2)) (c.at + 3))
-        (drop (record_end 2 bs c.at) bs)
+        (only-pass (record_ok Ol bs c.at) (elements_at bs (byte_at bs (c.at + 2)) (c.at + 3))
+        (drop (record_end Ol bs c.at) bs)
         (λ os. record { parent = byte_at bs (i + 2); relations = rows; conditions = conditions; outputs = os })
-        ∙ by-record h (record_ok 2 bs c.at) refl)
+        ∙ by-record h (record_ok Ol bs c.at) refl)
     by-output h false m =
         rw (one-missing OL output (drop c.at bs) m)
-        (after_none _ ∙ sym (rw (no_output h (not_there 2 c.at (omega arith) m)) (only-fails false _ _ refl)))
+        (after_none _ ∙ sym (rw (no_output h (not_there Ol c.at m)) (only-fails false _ _ refl)))
 
     -- where a run of relation rows or of conditions stops before a malformed one, no output list stands
     after-rows : i + 3 ≤ length bs → marked RW (drop r.at bs) ≡ true → block bs i ≡ no_block
     after-rows h m =
-        let n : record_ok 1 bs r.at ≡ false =
-        not_there 1 r.at (omega arith) (marked_other RW CD (drop r.at bs) (λ z. omega arith) m) in
-        let s : c.at ≡ r.at = ap (λ (x : Run). x.at) (run-empty 1 r.at n) in
+        let n : record_ok Cd bs r.at ≡ false =
+        not_there Cd r.at (marked_other RW CD (drop r.at bs) (λ z. omega arith) m) in
+        let s : c.at ≡ r.at = ap (λ (x : Run). x.at) (run-empty Cd r.at n) in
         no_output h
-        (not_there 2 c.at (omega arith) (marked_other RW OL (drop c.at bs) (λ z. omega arith) (rw s m)))
+        (not_there Ol c.at (marked_other RW OL (drop c.at bs) (λ z. omega arith) (rw s m)))
 
     after-conditions : i + 3 ≤ length bs → marked CD (drop c.at bs) ≡ true → block bs i ≡ no_block
     after-conditions h m =
-        no_output h (not_there 2 c.at (omega arith) (marked_other CD OL (drop c.at bs) (λ z. omega arith) m))
+        no_output h (not_there Ol c.at (marked_other CD OL (drop c.at bs) (λ z. omega arith) m))
 
-    by-conditions : i + 3 ≤ length bs → RunRead 1 (omega arith) condition (condition_at bs) (condition-reads bs) r.at
+    by-conditions : i + 3 ≤ length bs → RunRead Cd condition (condition_at bs) (condition-reads bs) r.at
         → second rows (drop r.at bs) ≡ only stands (described bs (block bs i)) (drop (block bs i).end bs)
     unfolding conditions
     by-conditions h (inl x) =
@@ -222,24 +224,24 @@ module _ (bs : List ℕ) where
     by-conditions h (inr x) =
         rw x.0 (after_none _ ∙ sym (rw (after-conditions h x.1) (only-fails false _ _ refl)))
 
-    by_rows : i + 3 ≤ length bs → RunRead 0 (omega arith) relation (relation_at bs) (relation-reads bs) (i + 3) → Reads
+    by_rows : i + 3 ≤ length bs → RunRead Rw relation (relation_at bs) (relation-reads bs) (i + 3) → Reads
     unfolding rows
     by_rows h (inl x) =
         block-bytes h
         ∙ rw (x, sym (relations_are bs r.count (i + 3)))
         (after-some _ _ _
         ∙ by-conditions h
-        (run-read 1 (omega arith) condition (condition_at bs) (condition-reads bs) r.at))
+        (run-read Cd condition (condition_at bs) (condition-reads bs) r.at))
     by_rows h (inr x) = none_read (after-rows h x.1) (block-bytes h ∙ rw x.0 (after_none _))
 
     short : length bs < i + 3 → Reads
     short h =
-        none_read (block_bare bs i (cut bs 3 i (let g = end_is 3 bs i in omega arith)))
+        none_read (block_bare bs i (cut bs Bk i (let g = end_is Bk bs i in omega arith)))
         (ap (records.block f) (nil-at bs (i + 2) (omega arith)) ∙ block-nil f)
 
     pub block_reads : records.block f (drop 2 (drop i bs)) ≡ only stands (described bs (block bs i))
         (drop (block bs i).end bs)
     block_reads =
         ap (records.block f) (drop-drop 2 i bs)
-        ∙ ⊎_elim (λ h. by_rows h (run-read 0 (omega arith) relation (relation_at bs) (relation-reads bs) (i + 3))) short
+        ∙ ⊎_elim (λ h. by_rows h (run-read Rw relation (relation_at bs) (relation-reads bs) (i + 3))) short
         (le-or (i + 3) (length bs))

@@ -8,11 +8,12 @@ use lib.ListN.{length}
 use borrow.Author.Tests.{lt-ltb, le-ltb}
 use Rattle.syntax.specs.Described.{decode, element_at, condition_at, conditions_at}
 use Rattle.syntax.specs.Places.{byte_at, word_at, record_end, condition_end}
+use Rattle.syntax.specs.declared.Record.TheVariants.{Cd}
 use Rattle.syntax.proofs.Laws.{byte_past}
 use Rattle.model.specs.Question.{empty}
 
 module _ (bs : List ℕ) (i : ℕ) where
-  pub end-within : i < length bs → condition_end bs i ≡ record_end 1 bs i
+  pub end-within : i < length bs → condition_end bs i ≡ record_end Cd bs i
   unfolding condition_end
   end-within h = simp (lt-ltb i (length bs) h)
 
@@ -23,11 +24,6 @@ module _ (bs : List ℕ) (i : ℕ) where
   -- past the end a walk stays past the end
   pub past-stays : length bs ≤ i → length bs ≤ condition_end bs i
   past-stays h = omega (arith, end-past h)
-
-  -- what the code adds
-  pub end-added : i < length bs → i + 21 ≡ condition_end bs i
-  unfolding record_end
-  end-added h = let e : i + 21 ≡ record_end 1 bs i = omega arith in rw (end-within h) e
 
   pub element-past : length bs ≤ i → element_at bs i ≡ empty
   unfolding element_at

@@ -13,29 +13,34 @@ use lib.Dec.{eqb, ltb}
 use lib.ListN.{length, take, drop, length-drop, drop_of_length-le}
 use lib.Seq.{drop-cons, drop-drop}
 use Rattle.syntax.specs.Described.{decode, element_at, elements_at}
+use Rattle.syntax.specs.declared.Record.{Record}
+use Rattle.syntax.specs.declared.Record.TheVariants.{Rw, Cd, Ol, Bk, En}
 use Rattle.syntax.specs.Places.{byte_at, word_at, takes, five_zeros, argument_ok, element_ok, elements_ok}
 use Rattle.model.proofs.FormatEquations.{element-nil, element-other, element-read, element-short, after_none}
 use Rattle.model.proofs.FormatEquations.{after-some, only-fails, eight_read, eight_short}
-use Rattle.model.specs.Format.{Parser, after, give, fail, only, times, byte, eight, number64, signed}
+use Rattle.model.specs.Format.{Parser, after, give, fail, only, times, eight, number64, signed}
 use Rattle.model.specs.Format.{aggregate_is, element_of, element, row_kinds, condition_kinds, output_kinds}
 use Rattle.model.specs.Question.{Element, empty, constant, variable, fixed, aggregate}
 use borrow.Author.Tests.{lt-ltb, le-ltb, eq-eqb, ne_eqb}
 
--- the kinds that a record takes: 0 RW, 1 CD, 2 OL
-abbrev pub kinds_of : ℕ → ℕ → Bool
-kinds_of zero = row_kinds
-kinds_of (suc zero) = condition_kinds
-kinds_of (suc (suc r)) = output_kinds
+-- the kinds that a record takes, as the model has them
+abbrev pub kinds_of : Record → ℕ → Bool
+kinds_of Rw = row_kinds
+kinds_of Cd = condition_kinds
+kinds_of Ol = output_kinds
+kinds_of Bk = λ k. false
+kinds_of En = λ k. false
 
 or-false : (b : Bool) → b || false ≡ b
 or-false true = refl
 or-false false = refl
 
-pub takes_is : (r k : ℕ) → r < 3 → takes r k ≡ kinds_of r k
-takes_is zero k h = or-false (ltb k 4 || false) ∙ or-false (ltb k 4)
-takes_is (suc zero) k h = or-false (ltb 0 k && ltb k 5)
-takes_is (suc (suc zero)) k h = refl
-takes_is (suc (suc (suc r))) k h = absurd (omega arith)
+pub takes_is : (r : Record) (k : ℕ) → takes r k ≡ kinds_of r k
+takes_is Rw k = refl
+takes_is Cd k = refl
+takes_is Ol k = refl
+takes_is Bk k = refl
+takes_is En k = refl
 
 module _ {A B : Type 0} where
   pub after_only : (t : Bool) (a : A) (l : List ℕ) (f : A → Parser B) → f a l ≡ none → after (only t a l) f ≡ none
@@ -152,10 +157,6 @@ module _ (b0 b1 b2 b3 b4 b5 b6 b7 : ℕ) where
   element_of-is (suc (suc (suc (suc (suc k))))) cs = sym (only-fails _ _ cs (other k horner b0 b2 zeros))
 
 module _ (bs : List ℕ) where
-  pub byte-some : (i : ℕ) → i < length bs → byte (drop i bs) ≡ some (byte_at bs i, drop (i + 1) bs)
-  unfolding byte
-  byte-some i h = rw (drop-cons bs i 0 h, add-one)
-
   pub cons-at : (i : ℕ) → i < length bs → drop i bs ≡ byte_at bs i ∷ drop (i + 1) bs
   cons-at i h = drop-cons bs i 0 h ∙ ap (λ j. byte_at bs i ∷ drop j bs) (sym (add-one i))
 
@@ -191,10 +192,10 @@ module _ (bs : List ℕ) where
       step j l = cons-at (i + (j + 1)) l ∙ ap (λ k. byte_at bs (i + (j + 1)) ∷ drop k bs)
           (let e : i + (j + 1) + 1 ≡ i + (j + 2) = omega arith in e)
 
-  pub element-some : (r i : ℕ) → r < 3 → i + 9 ≤ length bs
+  pub element-some : (r : Record) (i : ℕ) → i + 9 ≤ length bs
       → element (kinds_of r) (drop i bs) ≡ only (element_ok r bs i) (element_at bs i) (drop (i + 9) bs)
   unfolding element_ok element_at
-  element-some r i h l = rw (cons-at i (omega arith), takes_is r (byte_at bs i) h) (go (kinds_of r (byte_at bs i)) refl)
+  element-some r i l = rw (cons-at i (omega arith), takes_is r (byte_at bs i)) (go (kinds_of r (byte_at bs i)) refl)
     where
       k : ℕ
       k = byte_at bs i
@@ -219,7 +220,7 @@ module _ (bs : List ℕ) where
           ∙ element_of-is _ _ _ _ _ _ _ _ k (drop (i + 1 + 8) bs))
       go false e = element-other (kinds_of r) k (drop (i + 1) bs) e ∙ sym (only-fails false value (drop (i + 9) bs) refl)
 
-  pub element-none : (r i : ℕ) → length bs < i + 9 → element (kinds_of r) (drop i bs) ≡ none
+  pub element-none : (r : Record) (i : ℕ) → length bs < i + 9 → element (kinds_of r) (drop i bs) ≡ none
   element-none r i h =
       ⊎_elim short (λ k. rw (nil-at i (omega arith)) (element-nil (kinds_of r))) (le-or (suc i) (length bs))
     where
@@ -231,13 +232,13 @@ module _ (bs : List ℕ) where
       short : suc i ≤ length bs → element (kinds_of r) (drop i bs) ≡ none
       short l = rw (cons-at i l) (go l (kinds_of r (byte_at bs i)) refl)
 
-  pub times-some : (r n i : ℕ) → r < 3 → i + 9 * n ≤ length bs
+  pub times-some : (r : Record) (n i : ℕ) → i + 9 * n ≤ length bs
       → times n (element (kinds_of r)) (drop i bs) ≡ only (elements_ok r bs n i) (elements_at bs n i) (drop (i + 9 * n) bs)
   unfolding times elements_ok elements_at only
-  times-some r zero i h l = simp add-zero
-  times-some r (suc n) i h l =
-      rw (element-some r i h (omega arith))
-      (go (element_ok r bs i) (elements_ok r bs n (i + 9)) (times-some r n (i + 9) h (omega arith)))
+  times-some r zero i l = simp add-zero
+  times-some r (suc n) i l =
+      rw (element-some r i (omega arith))
+      (go (element_ok r bs i) (elements_ok r bs n (i + 9)) (times-some r n (i + 9) (omega arith)))
     where
       e : i + 9 + 9 * n ≡ i + 9 * suc n
       e = omega arith
@@ -253,14 +254,14 @@ module _ (bs : List ℕ) where
       go true false k = simp (after-some, k, after_none)
       go false u k = simp after_none
 
-  pub times-short : (r n i : ℕ) → r < 3 → length bs < i + 9 * n → i ≤ length bs
+  pub times-short : (r : Record) (n i : ℕ) → length bs < i + 9 * n → i ≤ length bs
       → times n (element (kinds_of r)) (drop i bs) ≡ none
   unfolding times
-  times-short r zero i h l m = absurd (omega arith)
-  times-short r (suc n) i h l m =
+  times-short r zero i l m = absurd (omega arith)
+  times-short r (suc n) i l m =
       ⊎_elim
-      (λ k. rw (element-some r i h k)
+      (λ k. rw (element-some r i k)
       (after_only (element_ok r bs i) (element_at bs i) (drop (i + 9) bs) _
-      (rw (times-short r n (i + 9) h (omega arith) k) (after_none _))))
+      (rw (times-short r n (i + 9) (omega arith) k) (after_none _))))
       (λ k. simp (element-none r i k, after_none))
       (le-or (i + 9) (length bs))

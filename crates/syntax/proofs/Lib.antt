@@ -1,6 +1,5 @@
 pub mod Laws
 pub mod Conditions
-mod Numbers
 pub mod Elements
 pub mod Records
 pub mod Runs

@@ -7,8 +7,9 @@ use mathlib.Core.List.{List, [], ◌∷◌}
 use mathlib.Core.Option.{none, some}
 use mathlib.Core.Path.{◌≡◌, refl, sym, ap, ◌∙◌, subst}
 use lib.Dec.{T, eqb}
-use lib.ListN.{length, drop}
+use lib.ListN.{drop}
 use Rattle.syntax.specs.Places.{record_end, record_ok, run}
+use Rattle.syntax.specs.declared.Record.{Record}
 use Rattle.model.proofs.FormatEquations.{after_none, after-some, only-fails, only-holds}
 use Rattle.model.proofs.RecordEquations.{marked-nil, marked_short, marked_two, many-spent, many_more, many-ends}
 use Rattle.model.specs.Format.{Parser, after, only}
@@ -22,11 +23,6 @@ module _ {A : Type 0} (val : ℕ → A) (end : ℕ → ℕ) where
   list_at zero i = []
   list_at (suc n) i = val i ∷ list_at n (end i)
 
-  pub list_at-length : (n i : ℕ) → length (list_at n i) ≡ n
-  unfolding list_at
-  list_at-length zero i = refl
-  list_at-length (suc n) i = ap suc (list_at-length n (end i))
-
 -- how many stand from place i on, in at most f, and where they end
 module _ (ok : ℕ → Bool) (end : ℕ → ℕ) where
   unfoldable pub count_from : ℕ → ℕ → ℕ
@@ -37,7 +33,7 @@ module _ (ok : ℕ → Bool) (end : ℕ → ℕ) where
   stop_from zero i = i
   stop_from (suc f) i = cond (ok i) (stop_from f (end i)) i
 
-pub run_is : (f r : ℕ) (bs : List ℕ) (n i : ℕ)
+pub run_is : (f : ℕ) (r : Record) (bs : List ℕ) (n i : ℕ)
     → run f r bs n i
     ≡ record {
       at = stop_from (record_ok r bs) (record_end r bs) f i;

@@ -7,6 +7,8 @@ use Rattle.model.specs.Lists.{All}
 use Rattle.model.specs.Question.{empty}
 use Rattle.syntax.specs.Described.{element_at, elements_at, relation_at, relations_at, condition_at, conditions_at}
 use Rattle.syntax.specs.Places.{record_end}
+use Rattle.syntax.specs.declared.Record.{Record}
+use Rattle.syntax.specs.declared.Record.TheVariants.{Rw, Cd}
 use Rattle.syntax.specs.Walks.{places, element_places, condition_places, relation_places}
 use Rattle.syntax.proofs.Blocks.{relations_are, conditions_are}
 use Rattle.syntax.proofs.Conditions.{element-past, condition_past}
@@ -58,7 +60,7 @@ module _ (bs : List ℕ) where
   unfolding relation_at elements_at
   row-past i h = let a = byte_past bs (i + 2) (omega arith) in let b = byte_past bs (i + 3) (omega arith) in rw (sym a, sym b) refl
 
-  stays : (r i : ℕ) → length bs ≤ i → length bs ≤ record_end r bs i
+  stays : (r : Record) (i : ℕ) → length bs ≤ i → length bs ≤ record_end r bs i
   unfolding record_end
   stays r i h = omega arith
 
@@ -73,7 +75,7 @@ module _ (bs : List ℕ) where
       × (conditions_at bs n i
       ≡ map (condition_at bs) (condition_places bs n i) ++ replicate k (record { operator = 0; left = empty; right = empty }))
   conditions_walk n i =
-      let w = walk (condition_at bs) (record_end 1 bs) bs _ (condition_past bs) (stays 1) n i in
+      let w = walk (condition_at bs) (record_end Cd bs) bs _ (condition_past bs) (stays Cd) n i in
       (w.0, conditions_are bs n i ∙ w.1)
 
   pub relations_walk : (n i : ℕ)
@@ -81,5 +83,5 @@ module _ (bs : List ℕ) where
       × (relations_at bs n i
       ≡ map (relation_at bs) (relation_places bs n i) ++ replicate k (record { table = 0; entries = [] }))
   relations_walk n i =
-      let w = walk (relation_at bs) (record_end 0 bs) bs _ row-past (stays 0) n i in
+      let w = walk (relation_at bs) (record_end Rw bs) bs _ row-past (stays Rw) n i in
       (w.0, relations_are bs n i ∙ w.1)

@@ -13,6 +13,7 @@ use Rattle.syntax.specs.Places.{head_ok, elements_ok, record_end, record_ok, no_
 use Rattle.syntax.specs.Places.{no_question, reading, well_formed, condition_end}
 use Rattle.syntax.specs.declared.Block.{Block}
 use Rattle.syntax.specs.declared.Question.{Question}
+use Rattle.syntax.specs.declared.Record.TheVariants.{Rw, Bk, En}
 use Rattle.model.proofs.RecordEquations.{ends-nil, ends-cons, question_malformed, question_unended, question_read}
 use Rattle.model.proofs.RecordEquations.{well_formed_is, question_of_is}
 use Rattle.model.specs.Checks.{from_to}
@@ -179,11 +180,11 @@ module _ (bs : List ℕ) where
       (λ k. ap ends (nil-at bs (j + 2) (omega arith)) ∙ ends-nil ∙ sym (eq-eqb (j + 2) (length bs) (omega arith)))
       (le-or (suc (j + 2)) (length bs))
 
-  end-stands : (j : ℕ) → marked EN (drop j bs) ≡ true → record_ok 4 bs j ≡ true
+  end-stands : (j : ℕ) → marked EN (drop j bs) ≡ true → record_ok En bs j ≡ true
   unfolding head_ok elements_ok record_end
   end-stands j e =
       let l = marked-long bs EN j e in
-      rw (record_whole 4 bs j (omega arith) (omega arith), head_is bs 4 j (omega arith) e) refl
+      rw (record_whole En bs j (omega arith) (omega arith), head_is bs En j e) refl
 
   formed-at : (j : ℕ) → j ≡ (reading bs).end → (t : Bool) → marked EN (drop j bs) ≡ t
       → well_formed bs ≡ marked EN (drop j bs) && ends (drop 2 (drop j bs))
@@ -192,7 +193,7 @@ module _ (bs : List ℕ) where
       rw (sym s, end-stands j e, e, drop-drop 2 j bs)
       (let p : j + 2 + 0 ≡ j + 2 = omega arith in
       sym (ends_is j (marked-long bs EN j e) ∙ ap (λ k. eqb k (length bs)) (sym p)))
-  formed-at j s false e = rw (sym s, not_there bs 4 j (omega arith) e, e) refl
+  formed-at j s false e = rw (sym s, not_there bs En j e, e) refl
 
   -- the model's blocks, where all were read
   abbrev pub question : List model.Block
@@ -201,7 +202,7 @@ module _ (bs : List ℕ) where
   stand-marked : (i : ℕ) → stands_at i ≡ true → marked BK (drop i bs) ≡ true
   unfolding block
   stand-marked i e =
-      on (record_ok 3 bs i) (λ t. record-marked bs 3 i (omega arith) t)
+      on (record_ok Bk bs i) (λ t. record-marked bs Bk i t)
       (λ t. absurd (subst T (sym e ∙ ap (λ (b : Block). not (eqb b.end 0)) (block_bare bs i t)) tt))
 
   by_blocks : Many BK (records.block (length bs)) bs stands_at (λ i. described bs (block bs i)) end_at (block_reads bs)
@@ -286,7 +287,7 @@ count_is bs w =
 relations-length : (bs : List ℕ) (n i : ℕ) → length (relations_at bs n i) ≡ n
 unfolding relations_at
 relations-length bs zero i = refl
-relations-length bs (suc n) i = ap suc (relations-length bs n (record_end 0 bs i))
+relations-length bs (suc n) i = ap suc (relations-length bs n (record_end Rw bs i))
 
 conditions-length : (bs : List ℕ) (n i : ℕ) → length (conditions_at bs n i) ≡ n
 unfolding conditions_at

@@ -8,6 +8,7 @@ use Rattle.std.specs.Prelude.{ℕ, zero, suc, ◌+◌, List, [], ◌∷◌, map,
 use Rattle.syntax.specs.Places.{byte_at, word_at, record_end, condition_end}
 use Rattle.syntax.specs.declared.Block.{Block}
 use Rattle.syntax.specs.declared.Question.{Question}
+use Rattle.syntax.specs.declared.Record.TheVariants.{Rw}
 use Rattle.model.specs.Format.{signed}
 use Rattle.model.specs.Question.{Element, empty, constant, variable, fixed, aggregate, RelationRow, Condition}
 use Rattle.model.specs.Question as model
@@ -31,7 +32,7 @@ relation_at bs i = record { table = byte_at bs (i + 2); entries = elements_at bs
 
 unfoldable pub relations_at : List ℕ → ℕ → ℕ → List RelationRow
 relations_at bs zero i = []
-relations_at bs (suc n) i = relation_at bs i ∷ relations_at bs n (record_end 0 bs i)
+relations_at bs (suc n) i = relation_at bs i ∷ relations_at bs n (record_end Rw bs i)
 
 unfoldable pub condition_at : List ℕ → ℕ → Condition
 condition_at bs i =

@@ -3,7 +3,7 @@
 --   byte_at bs i           the byte at place i, 0 past the end; word_at bs i: the eight bytes from i on, lowest first
 --   item_at bs i           the element at place i: its kind, its argument as a number and by bytes
 --   head_at bs i           its kind and its argument as a number alone
---   takes r k             record r takes kind k; records are 0 RW, 1 CD, 2 OL, 3 BK, 4 EN
+--   takes r k             record r takes kind k; a record is named by its mark: Rw, Cd, Ol, Bk, En
 --   argument_ok k a f c z  kind k takes the argument
 --   element_ok r bs i      an element of record r stands at i; elements_ok r bs n i: n of them
 --   head_of r              the bytes of a record before its elements; entries_of r bs i: how many elements follow
@@ -14,11 +14,13 @@
 --   block_within b         the limits of number 6 on one block
 --   walk f bs q           as many blocks as stand from the end of q on, put into q, which keeps the first five
 --   reading bs            the blocks that stand in bs; well_formed bs: EN and nothing else follows them
-use Rattle.std.specs.Prelude.{ℕ, zero, suc, ◌+◌, ◌*◌, ◌-◌, Bool, true, ◌&&◌, ◌||◌, not, cond, List, [], ◌∷◌, eqb, ltb, leb, length, get_or, set}
+use Rattle.std.specs.Prelude.{ℕ, zero, suc, ◌+◌, ◌*◌, ◌-◌, Bool, true, false, ◌&&◌, ◌||◌, cond, List, [], ◌∷◌, eqb, ltb, leb, length, get_or, set}
 use Rattle.syntax.specs.declared.Run.{Run}
 use Rattle.syntax.specs.declared.Item.{Item}
 use Rattle.syntax.specs.declared.Head.{Head}
 use Rattle.syntax.specs.declared.Block.{Block}
+use Rattle.syntax.specs.declared.Record.{Record}
+use Rattle.syntax.specs.declared.Record.TheVariants.{Rw, Cd, Ol, Bk, En}
 use Rattle.syntax.specs.declared.Question.{Question}
 
 abbrev pub byte_at : List ℕ → ℕ → ℕ
@@ -47,9 +49,12 @@ item_at bs i =
 abbrev pub head_at : List ℕ → ℕ → Head
 head_at bs i = record { argument = (item_at bs i).argument; kind = (item_at bs i).kind }
 
--- records: 0 RW, 1 CD, 2 OL
-abbrev pub takes : ℕ → ℕ → Bool
-takes r k = (eqb r 0 && ltb k 4) || (eqb r 1 && ltb 0 k && ltb k 5) || (eqb r 2 && (eqb k 2 || eqb k 4))
+abbrev pub takes : Record → ℕ → Bool
+takes Rw k = ltb k 4
+takes Cd k = ltb 0 k && ltb k 5
+takes Ol k = eqb k 2 || eqb k 4
+takes Bk k = false
+takes En k = false
 
 abbrev pub five_zeros : List ℕ → ℕ → Bool
 five_zeros bs i =
@@ -61,52 +66,70 @@ abbrev pub argument_ok : (k a f c : ℕ) → Bool → Bool
 argument_ok k a f c z =
     (eqb k 0 && eqb a 0) || (ltb 0 k && ltb k 4) || (eqb k 4 && ltb f 5 && (z && (ltb 0 f || eqb c 0)))
 
-unfoldable pub element_ok : ℕ → List ℕ → ℕ → Bool
+unfoldable pub element_ok : Record → List ℕ → ℕ → Bool
 element_ok r bs i =
     takes r (byte_at bs i)
     && argument_ok (byte_at bs i) (word_at bs (i + 1)) (byte_at bs (i + 1)) (byte_at bs (i + 3)) (five_zeros bs (i + 4))
 
 -- n elements from i on
-unfoldable pub elements_ok : ℕ → List ℕ → ℕ → ℕ → Bool
+unfoldable pub elements_ok : Record → List ℕ → ℕ → ℕ → Bool
 elements_ok r bs zero i = true
 elements_ok r bs (suc n) i = element_ok r bs i && elements_ok r bs n (i + 9)
 
--- the two bytes of a record's mark: 0 RW, 1 CD, 2 OL, 3 BK, 4 EN
-abbrev pub is_mark : (r x y : ℕ) → Bool
-is_mark r x y =
-    (eqb r 0 && eqb x 82 && eqb y 87) || (eqb r 1 && eqb x 67 && eqb y 68) || (eqb r 2 && eqb x 79 && eqb y 76)
-    || (eqb r 3 && eqb x 66 && eqb y 75) || (eqb r 4 && eqb x 69 && eqb y 78)
+-- the two bytes of a record's mark
+abbrev pub is_mark : Record → ℕ → ℕ → Bool
+is_mark Rw x y = eqb x 82 && eqb y 87
+is_mark Cd x y = eqb x 67 && eqb y 68
+is_mark Ol x y = eqb x 79 && eqb y 76
+is_mark Bk x y = eqb x 66 && eqb y 75
+is_mark En x y = eqb x 69 && eqb y 78
 
 -- a record is a mark and bytes, its head, and elements
-abbrev pub head_of : ℕ → ℕ
-head_of r = cond (eqb r 0) 4 (cond (eqb r 4) 2 3)
+abbrev pub head_of : Record → ℕ
+head_of Rw = 4
+head_of Cd = 3
+head_of Ol = 3
+head_of Bk = 3
+head_of En = 2
 
-abbrev pub entries_of : ℕ → List ℕ → ℕ → ℕ
-entries_of r bs i = cond (eqb r 0) (byte_at bs (i + 3)) (cond (eqb r 1) 2 (cond (eqb r 2) (byte_at bs (i + 2)) 0))
+abbrev pub entries_of : Record → List ℕ → ℕ → ℕ
+entries_of Rw bs i = byte_at bs (i + 3)
+entries_of Cd bs i = 2
+entries_of Ol bs i = byte_at bs (i + 2)
+entries_of Bk bs i = 0
+entries_of En bs i = 0
 
-unfoldable pub head_ok : ℕ → List ℕ → ℕ → Bool
-head_ok r bs i = is_mark r (byte_at bs i) (byte_at bs (i + 1)) && (not (eqb r 1) || ltb (byte_at bs (i + 2)) 6)
+-- a condition's operator is below 6
+abbrev pub operator_ok : Record → ℕ → Bool
+operator_ok Rw o = true
+operator_ok Cd o = ltb o 6
+operator_ok Ol o = true
+operator_ok Bk o = true
+operator_ok En o = true
 
-unfoldable pub record_end : ℕ → List ℕ → ℕ → ℕ
+unfoldable pub head_ok : Record → List ℕ → ℕ → Bool
+head_ok r bs i = is_mark r (byte_at bs i) (byte_at bs (i + 1)) && operator_ok r (byte_at bs (i + 2))
+
+unfoldable pub record_end : Record → List ℕ → ℕ → ℕ
 record_end r bs i = i + head_of r + 9 * entries_of r bs i
 
 -- the step of every walk over conditions
 unfoldable pub condition_end : List ℕ → ℕ → ℕ
-condition_end bs i = cond (ltb i (length bs)) (record_end 1 bs i) i
+condition_end bs i = cond (ltb i (length bs)) (record_end Cd bs i) i
 
 -- a record r stands at i, well formed
-unfoldable pub record_ok : ℕ → List ℕ → ℕ → Bool
+unfoldable pub record_ok : Record → List ℕ → ℕ → Bool
 record_ok r bs i =
     leb (head_of r) (left bs i)
     && (leb (record_end r bs i) (length bs)
     && (head_ok r bs i && elements_ok r bs (entries_of r bs i) (i + head_of r)))
 
 -- as many records r as stand from i on, n of them before: where they end, and how many they are
-unfoldable pub run : ℕ → ℕ → List ℕ → ℕ → ℕ → Run
+unfoldable pub run : ℕ → Record → List ℕ → ℕ → ℕ → Run
 run zero r bs n i = record { at = i; count = n }
 run (suc f) r bs n i = cond (record_ok r bs i) (run f r bs (n + 1) (record_end r bs i)) (record { at = i; count = n })
 
-abbrev pub runs : ℕ → List ℕ → ℕ → Run
+abbrev pub runs : Record → List ℕ → ℕ → Run
 runs r bs i = run (length bs) r bs 0 i
 
 abbrev pub no_block : Block
@@ -125,7 +148,7 @@ no_block =
 -- a block at i, well formed where its end is not 0
 abbrev pub block_with : List ℕ → ℕ → Run → Run → Block
 block_with bs i r c =
-    cond (record_ok 2 bs c.at)
+    cond (record_ok Ol bs c.at)
     (record {
       parent = byte_at bs (i + 2);
       rows_at = i + 3;
@@ -134,12 +157,12 @@ block_with bs i r c =
       conditions = c.count;
       outputs_at = c.at + 3;
       outputs = byte_at bs (c.at + 2);
-      end = record_end 2 bs c.at;
+      end = record_end Ol bs c.at;
     })
     no_block
 
 unfoldable pub block : List ℕ → ℕ → Block
-block bs i = cond (record_ok 3 bs i) (block_with bs i (runs 0 bs (i + 3)) (runs 1 bs (runs 0 bs (i + 3)).at)) no_block
+block bs i = cond (record_ok Bk bs i) (block_with bs i (runs Rw bs (i + 3)) (runs Cd bs (runs Rw bs (i + 3)).at)) no_block
 
 abbrev pub block_within : Block → Bool
 block_within b = ltb b.rows 4 && ltb b.conditions 9 && ltb 0 b.outputs && ltb b.outputs 5
@@ -166,4 +189,4 @@ reading bs = walk (length bs) bs no_question
 
 -- 5
 unfoldable pub well_formed : List ℕ → Bool
-well_formed bs = record_ok 4 bs (reading bs).end && eqb (record_end 4 bs (reading bs).end) (length bs)
+well_formed bs = record_ok En bs (reading bs).end && eqb (record_end En bs (reading bs).end) (length bs)

@@ -5,6 +5,7 @@
 --   to_come w               what walk w has left
 use Rattle.std.specs.Prelude.{ℕ, zero, suc, ◌+◌, List, [], ◌∷◌, cond, ltb, length}
 use Rattle.syntax.specs.Places.{record_end}
+use Rattle.syntax.specs.declared.Record.TheVariants.{Rw, Cd}
 use Rattle.syntax.specs.declared.walks.Places.{Places}
 use Rattle.syntax.specs.declared.walks.Walked.{Walked}
 use Rattle.syntax.specs.declared.walks.Walked.TheVariants.{Elements, Conditions, Relations}
@@ -15,8 +16,8 @@ places end bs (suc n) i = cond (ltb i (length bs)) (i ∷ places end bs n (end i
 
 abbrev pub end_of : Walked → List ℕ → ℕ → ℕ
 end_of Elements bs i = i + 9
-end_of Conditions bs i = record_end 1 bs i
-end_of Relations bs i = record_end 0 bs i
+end_of Conditions bs i = record_end Cd bs i
+end_of Relations bs i = record_end Rw bs i
 
 abbrev pub element_places : List ℕ → ℕ → ℕ → List ℕ
 element_places bs = places (end_of Elements bs) bs

@@ -5,9 +5,9 @@
 
 mod walks;
 
-ghost use Rattle.std.specs.Prelude.{◌≡◌, true, ◌&&◌, ℕ, ◌+◌, ◌*◌, ◌-◌, ◌%◌, ◌≤◌, ◌<◌, length, get_or};
+ghost use Rattle.std.specs.Prelude.{MatchOption, ◌≡◌, true, ◌&&◌, ℕ, ◌+◌, ◌*◌, ◌-◌, ◌%◌, ◌≤◌, ◌<◌, length, get_or};
 ghost use Rattle.model.specs.Records as model;
-ghost use Rattle.syntax.specs.Places.{item_at, head_at, byte_at, left, word_at, takes, five_zeros, argument_ok, element_ok};
+ghost use Rattle.syntax.specs.Places.{item_at, head_at, byte_at, word_at, takes, five_zeros, argument_ok, element_ok};
 ghost use Rattle.syntax.specs.Places.{elements_ok, is_mark, head_of, entries_of, head_ok, record_end, record_ok, run};
 ghost use Rattle.syntax.specs.Places.{runs, block, block_within, put, walk, no_block, no_question, reading};
 ghost use Rattle.syntax.specs.Places.{condition_end, well_formed};
@@ -31,13 +31,15 @@ pub struct Head {
     pub kind: u8,
 }
 
+// Where a run of records ends, and how many it has.
 #[derive(Clone, Copy)]
-pub struct Run {
-    pub at: usize,
-    pub count: usize,
+struct Run {
+    at: usize,
+    count: usize,
 }
 
-#[derive(Clone, Copy)]
+// Where the records of a block lie, and how many there are.
+#[derive(Clone, Copy, Default)]
 pub struct Block {
     pub parent: u8,
     pub rows_at: usize,
@@ -57,115 +59,59 @@ pub struct Question {
     pub end: usize,
 }
 
-fn wide(x: u8) -> u64
-    ensures { (result ≡ x) × (result < 256) }
+// The number that the first eight bytes hold, lowest first; bytes past the end read 0.
+fn word(s: &[u8]) -> u64
+    ensures { result ≡ word_at s.now 0 }
 {
-    x as u64
-}
-
-fn size(x: u8) -> usize
-    ensures { (result ≡ x) × (result < 256) }
-{
-    x as usize
-}
-
-// How many bytes stand from at on.
-fn left_from(s: &[u8], at: usize) -> usize
-    ensures { result ≡ left s.now at }
-{
-    if at < s.len() {
-        return s.len() - at;
+    if let Some(bytes) = s.first_chunk() {
+        return u64::from_le_bytes(*bytes);
     }
-    0
-}
-
-// The eight bytes from at on, lowest first.
-fn word(s: &[u8], at: usize) -> u64
-    requires { at + 8 ≤ length s.now }
-    ensures { result ≡ word_at s.now at }
-{
-    let mut n = wide(s[at + 7]);
-    n = n * 256 + wide(s[at + 6]);
-    n = n * 256 + wide(s[at + 5]);
-    n = n * 256 + wide(s[at + 4]);
-    n = n * 256 + wide(s[at + 3]);
-    n = n * 256 + wide(s[at + 2]);
-    n = n * 256 + wide(s[at + 1]);
-    n * 256 + wide(s[at])
+    let mut bytes = [0; 8];
+    bytes[..s.len()].copy_from_slice(s);
+    u64::from_le_bytes(bytes)
 }
 
 // The byte at a place, 0 past the end.
 pub fn byte_at(s: &[u8], at: usize) -> u8
     ensures { result ≡ byte_at s.now at }
 {
-    if at < s.len() {
-        return s[at];
-    }
-    0
-}
-
-// The number that the bytes from a place to the end hold, lowest first, fewer than eight of them.
-fn number_near_end(s: &[u8], at: usize) -> u64
-    requires { (at ≤ length s.now) × (length s.now < at + 8) }
-    ensures { result ≡ word_at s.now at }
-{
-    let mut n = 0;
-    let mut i = s.len();
-    while i > at {
-        i -= 1;
-        n = n * 256 + wide(s[i]);
-    }
-    n
+    s.get(at).copied().unwrap_or(0)
 }
 
 // The kind and the argument of the element at a place, both 0 past the end.
 pub fn head_at(s: &[u8], at: usize) -> Head
     ensures { result ≡ head_at s.now at }
 {
-    if left_from(s, at) < 9 {
-        if at < s.len() {
-            let argument = number_near_end(s, at + 1);
-            return Head {
-                argument,
-                kind: s[at],
-            };
-        }
-        return Head {
+    match s.get(at..) {
+        Some([kind, argument @ ..]) => Head {
+            argument: word(argument),
+            kind: *kind,
+        },
+        _ => Head {
             argument: 0,
             kind: 0,
-        };
+        },
     }
-    let argument = word(s, at + 1);
-    Head {
-        argument,
-        kind: s[at],
-    }
-}
-
-// The lowest byte of a number.
-fn low(n: u64) -> u8
-    ensures { result ≡ n % 256 }
-{
-    (n % 256) as u8
 }
 
 // The element at a place, decoded: an empty one past the end.
 pub fn item_at(s: &[u8], at: usize) -> Item
     ensures { result ≡ item_at s.now at }
 {
-    let h = head_at(s, at);
-    let argument = h.argument;
+    let Head { argument, kind } = head_at(s, at);
+    let [function, block, column, ..] = argument.to_le_bytes();
     Item {
-        kind: h.kind,
+        kind,
         argument,
-        function: low(argument),
-        block: low(argument / 256),
-        column: low(argument / 65536),
+        function,
+        block,
+        column,
     }
 }
 
 // The place after the condition at a place, the place itself where the bytes end: the step of every walk over
 // conditions.
+#[tactic(auto, unfolding(crate::specs::Places::condition_end, crate::specs::Places::record_end))]
 pub fn condition_end(s: &[u8], at: usize) -> usize
     ensures { result ≡ condition_end s.now at }
 {
@@ -175,13 +121,14 @@ pub fn condition_end(s: &[u8], at: usize) -> usize
     at
 }
 
-// Whether the record takes the kind: 0 RW, 1 CD, 2 OL.
-fn takes_kind(rec: u8, kind: u8) -> bool
-    ensures { result ≡ takes rec kind }
-{
-    (rec == 0) & (kind < 4)
-        | (rec == 1) & (0 < kind) & (kind < 5)
-        | (rec == 2) & ((kind == 2) | (kind == 4))
+// The records of a question, each named by its mark.
+#[derive(Clone, Copy)]
+enum Record {
+    Rw,
+    Cd,
+    Ol,
+    Bk,
+    En,
 }
 
 // Whether the five bytes from at on are 0.
@@ -189,7 +136,7 @@ fn five_zeros(s: &[u8], at: usize) -> bool
     requires { at + 5 ≤ length s.now }
     ensures { result ≡ five_zeros s.now at }
 {
-    (s[at] == 0) & (s[at + 1] == 0) & (s[at + 2] == 0) & (s[at + 3] == 0) & (s[at + 4] == 0)
+    s[at..at + 5] == [0; 5]
 }
 
 // Whether the kind takes the argument: a its number, f and c its bytes 0 and 2, z whether its bytes 3 to 7 are 0.
@@ -201,165 +148,156 @@ fn argument_ok(kind: u8, a: u64, f: u8, c: u8, z: bool) -> bool
         | (kind == 4) & (f < 5) & (z & ((0 < f) | (c == 0)))
 }
 
-fn element_ok(rec: u8, s: &[u8], at: usize) -> bool
-    requires { at + 9 ≤ length s.now }
-    ensures { result ≡ element_ok rec s.now at }
-{
-    let kind = s[at];
-    takes_kind(rec, kind)
-        & argument_ok(
-            kind,
-            word(s, at + 1),
-            s[at + 1],
-            s[at + 3],
-            five_zeros(s, at + 4),
-        )
-}
-
-fn elements_ok(rec: u8, s: &[u8], at: usize, n: usize) -> bool
-    requires { at + 9 * n ≤ length s.now }
-    ensures { result ≡ elements_ok rec s.now n at }
-{
-    let mut ok = true;
-    let mut i = at;
-    let mut more = n;
-    while more > 0 {
-        ok = ok & element_ok(rec, s, i);
-        i += 9;
-        more -= 1;
-    }
-    ok
-}
-
-// Records: 0 RW, 1 CD, 2 OL, 3 BK, 4 EN.
-fn is_mark(rec: u8, x: u8, y: u8) -> bool
-    ensures { result ≡ is_mark rec x y }
-{
-    let rw = b"RW";
-    let cd = b"CD";
-    let ol = b"OL";
-    let bk = b"BK";
-    let en = b"EN";
-    (rec == 0) & (x == rw[0]) & (y == rw[1])
-        | (rec == 1) & (x == cd[0]) & (y == cd[1])
-        | (rec == 2) & (x == ol[0]) & (y == ol[1])
-        | (rec == 3) & (x == bk[0]) & (y == bk[1])
-        | (rec == 4) & (x == en[0]) & (y == en[1])
-}
-
-fn head_of(rec: u8) -> usize
-    ensures { (result ≡ head_of rec) × (2 ≤ result) × (result ≤ 4) }
-{
-    if rec == 0 {
-        return 4;
-    }
-    if rec == 4 {
-        return 2;
-    }
-    3
-}
-
-fn entries_of(rec: u8, s: &[u8], at: usize) -> usize
-    requires { at + head_of rec ≤ length s.now }
-    ensures { (result ≡ entries_of rec s.now at) × (result < 256) }
-{
-    if rec == 0 {
-        return size(s[at + 3]);
-    }
-    if rec == 1 {
-        return 2;
-    }
-    if rec == 2 {
-        return size(s[at + 2]);
-    }
-    0
-}
-
-fn head_ok(rec: u8, s: &[u8], at: usize) -> bool
-    requires { at + head_of rec ≤ length s.now }
-    ensures { result ≡ head_ok rec s.now at }
-{
-    let good = is_mark(rec, s[at], s[at + 1]);
-    if rec == 1 {
-        return good & (s[at + 2] < 6);
-    }
-    good
-}
-
-// The place after the record at `at`.
-fn record_end(rec: u8, s: &[u8], at: usize) -> usize
-    requires { record_ok rec s.now at ≡ true }
-    ensures { result ≡ record_end rec s.now at }
-{
-    at + head_of(rec) + 9 * entries_of(rec, s, at)
-}
-
-fn record_ok(rec: u8, s: &[u8], at: usize) -> bool
-    ensures { result ≡ record_ok rec s.now at }
-{
-    let head = head_of(rec);
-    if left_from(s, at) < head {
-        return false;
-    }
-    let first = at + head;
-    let n = entries_of(rec, s, at);
-    if s.len() - first < 9 * n {
-        return false;
-    }
-    head_ok(rec, s, at) & elements_ok(rec, s, first, n)
-}
-
-fn run_of(rec: u8, s: &[u8], at: usize) -> Run
-    requires { at ≤ length s.now }
-    ensures { (result ≡ runs rec s.now at) × (result.at ≤ length s.now) }
-{
-    let mut i = at;
-    let mut n = 0;
-    while record_ok(rec, s, i) {
-        i = record_end(rec, s, i);
-        n += 1;
-    }
-    Run { at: i, count: n }
-}
-
-fn no_block() -> Block
-    ensures { result ≡ no_block }
-{
-    Block {
-        parent: 0,
-        rows_at: 0,
-        rows: 0,
-        conditions_at: 0,
-        conditions: 0,
-        outputs_at: 0,
-        outputs: 0,
-        end: 0,
-    }
-}
-
-fn block_at(s: &[u8], at: usize) -> Block
-    ensures { result ≡ block s.now at }
-{
-    if record_ok(3, s, at) {
-        let rw = at + 3;
-        let r = run_of(0, s, rw);
-        let cd = r.at;
-        let c = run_of(1, s, cd);
-        let o = c.at;
-        if record_ok(2, s, o) {
-            return Block {
-                parent: s[at + 2],
-                rows_at: rw,
-                rows: r.count,
-                conditions_at: cd,
-                conditions: c.count,
-                outputs_at: o + 3,
-                outputs: size(s[o + 2]),
-                end: record_end(2, s, o),
-            };
+impl Record {
+    // Whether the record takes the kind.
+    fn takes(self, kind: u8) -> bool
+        ensures { result ≡ takes self kind }
+    {
+        match self {
+            Record::Rw => kind < 4,
+            Record::Cd => (0 < kind) & (kind < 5),
+            Record::Ol => (kind == 2) | (kind == 4),
+            Record::Bk | Record::En => false,
         }
     }
-    no_block()
+
+    // Whether an element of the record stands at a place.
+    #[tactic(auto, unfolding(crate::specs::Places::element_ok))]
+    fn element_ok(self, s: &[u8], at: usize) -> bool
+        requires { at + 9 ≤ length s.now }
+        ensures { result ≡ element_ok self s.now at }
+    {
+        let e = item_at(s, at);
+        let zeros = five_zeros(s, at + 4);
+        self.takes(e.kind) & argument_ok(e.kind, e.argument, e.function, e.column, zeros)
+    }
+
+    // Whether n elements of the record stand from a place on.
+    fn elements_ok(self, s: &[u8], at: usize, n: usize) -> bool
+        requires { at + 9 * n ≤ length s.now }
+        ensures { result ≡ elements_ok self s.now n at }
+    {
+        (0..n).all(|k| self.element_ok(s, at + 9 * k))
+    }
+
+    // Whether two bytes are the record's mark.
+    fn is_mark(self, x: u8, y: u8) -> bool
+        ensures { result ≡ is_mark self x y }
+    {
+        let mark = match self {
+            Record::Rw => *b"RW",
+            Record::Cd => *b"CD",
+            Record::Ol => *b"OL",
+            Record::Bk => *b"BK",
+            Record::En => *b"EN",
+        };
+        [x, y] == mark
+    }
+
+    // The bytes of the record before its elements.
+    fn head_of(self) -> usize
+        ensures { result ≡ head_of self }
+    {
+        match self {
+            Record::Rw => 4,
+            Record::Cd | Record::Ol | Record::Bk => 3,
+            Record::En => 2,
+        }
+    }
+
+    // How many elements follow the head of the record at a place.
+    fn entries_of(self, s: &[u8], at: usize) -> usize
+        requires { at + head_of self ≤ length s.now }
+        ensures { (result ≡ entries_of self s.now at) × (result < 256) }
+    {
+        match self {
+            Record::Rw => usize::from(s[at + 3]),
+            Record::Cd => 2,
+            Record::Ol => usize::from(s[at + 2]),
+            Record::Bk | Record::En => 0,
+        }
+    }
+
+    // Whether the head of the record stands at a place: its mark, and an operator in that of a condition.
+    #[tactic(auto, unfolding(crate::specs::Places::head_ok))]
+    fn head_ok(self, s: &[u8], at: usize) -> bool
+        requires { at + head_of self ≤ length s.now }
+        ensures { result ≡ head_ok self s.now at }
+    {
+        let good = self.is_mark(s[at], s[at + 1]);
+        match self {
+            Record::Cd => good & (s[at + 2] < 6),
+            _ => good,
+        }
+    }
+
+    // The place after the record at a place.
+    #[tactic(auto, using(crate::proofs::Laws::record_in), unfolding(crate::specs::Places::record_end))]
+    fn end_of(self, s: &[u8], at: usize) -> usize
+        requires { record_ok self s.now at ≡ true }
+        ensures { result ≡ record_end self s.now at }
+    {
+        at + self.head_of() + 9 * self.entries_of(s, at)
+    }
+
+    // Whether the record stands at a place, whole and well formed.
+    #[tactic(auto, using(crate::proofs::Laws::end_is), unfolding(crate::specs::Places::record_ok))]
+    fn stands(self, s: &[u8], at: usize) -> bool
+        ensures { result ≡ record_ok self s.now at }
+    {
+        let head = self.head_of();
+        if s.len().saturating_sub(at) < head {
+            return false;
+        }
+        let first = at + head;
+        let n = self.entries_of(s, at);
+        if s.len() - first < 9 * n {
+            return false;
+        }
+        self.head_ok(s, at) & self.elements_ok(s, first, n)
+    }
+
+    // As many of the record as stand from a place on.
+    fn run(self, s: &[u8], at: usize) -> Run
+        requires { at ≤ length s.now }
+        ensures { (result ≡ runs self s.now at) × (result.at ≤ length s.now) }
+    {
+        let mut i = at;
+        let mut n = 0;
+        // Where a record ends is told by its bytes: no range or iterator of the library gives the places.
+        while self.stands(s, i) {
+            i = self.end_of(s, i);
+            n += 1;
+        }
+        Run { at: i, count: n }
+    }
+}
+
+// The block at a place, where one stands.
+fn block_at(s: &[u8], at: usize) -> Option<Block>
+    ensures { MatchOption result ((block s.now at).end ≡ 0) (λ b. (b ≡ block s.now at) × (0 < b.end)) }
+{
+    if !Record::Bk.stands(s, at) {
+        return None;
+    }
+    let rw = at + 3;
+    let r = Record::Rw.run(s, rw);
+    let cd = r.at;
+    let c = Record::Cd.run(s, cd);
+    let o = c.at;
+    if !Record::Ol.stands(s, o) {
+        return None;
+    }
+    Some(Block {
+        parent: s[at + 2],
+        rows_at: rw,
+        rows: r.count,
+        conditions_at: cd,
+        conditions: c.count,
+        outputs_at: o + 3,
+        outputs: usize::from(s[o + 2]),
+        end: Record::Ol.end_of(s, o),
+    })
 }
 
 fn block_within(b: Block) -> bool
@@ -368,8 +306,10 @@ fn block_within(b: Block) -> bool
     (b.rows < 4) & (b.conditions < 9) & (0 < b.outputs) & (b.outputs < 5)
 }
 
+// The question with one more block, the first five of which are kept.
+#[tactic(auto, unfolding(crate::specs::Places::put))]
 fn put_block(q: Question, b: Block) -> Question
-    requires { (length q.blocks ≡ 5) × (q.count < b.end) }
+    requires { q.count < b.end }
     ensures { result ≡ put q b }
 {
     let mut blocks = q.blocks;
@@ -378,7 +318,7 @@ fn put_block(q: Question, b: Block) -> Question
         blocks[n] = b;
     }
     Question {
-        blocks: blocks,
+        blocks,
         count: n + 1,
         within: q.within & block_within(b),
         end: b.end,
@@ -389,27 +329,25 @@ fn read_blocks(s: &[u8]) -> Question
     ensures { result ≡ reading s.now }
 {
     let mut q = Question {
-        blocks: [no_block(); 5],
+        blocks: [Block::default(); 5],
         count: 0,
         within: true,
         end: 0,
     };
-    let mut b = block_at(s, 0);
-    while b.end > 0 {
+    while let Some(b) = block_at(s, q.end) {
         q = put_block(q, b);
-        let at = b.end;
-        b = block_at(s, at);
     }
     q
 }
 
+#[tactic(auto, unfolding(crate::specs::Places::well_formed))]
 fn well_formed(s: &[u8], q: Question) -> bool
     requires { q ≡ reading s.now }
     ensures { result ≡ well_formed s.now }
 {
     let at = q.end;
-    if record_ok(4, s, at) {
-        return record_end(4, s, at) == s.len();
+    if Record::En.stands(s, at) {
+        return Record::En.end_of(s, at) == s.len();
     }
     false
 }
