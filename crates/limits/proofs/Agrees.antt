@@ -23,6 +23,7 @@ use Rattle.syntax.specs.Described.{decode, element_at, elements_at, relation_at,
 use Rattle.syntax.specs.Places.{byte_at, word_at, element_ok, elements_ok, head_ok, record_end, record_ok, takes, argument_ok}
 use Rattle.syntax.specs.Places.{five_zeros, runs, block_with, block, reading, head_of, left, entries_of}
 use Rattle.syntax.specs.declared.Question.{Question}
+use Rattle.syntax.specs.declared.Record.TheVariants.{Rw, Cd, Ol, Bk}
 use Rattle.syntax.specs.declared.Run.{Run}
 use Rattle.limits.specs.Limits.{names_of, few_named, others_in, within_in}
 
@@ -45,61 +46,61 @@ decode-plain j (suc (suc (suc zero))) a f b c h = refl
 decode-plain j (suc (suc (suc (suc k)))) a f b c h = absurd (omega arith)
 
 module _ (bs : List ℕ) (j : ℕ) where
-  element-plain : (i : ℕ) → element_ok 0 bs i ≡ true → names j (element_at bs i) ≡ false
+  element-plain : (i : ℕ) → element_ok Rw bs i ≡ true → names j (element_at bs i) ≡ false
   unfolding element_ok element_at
   element-plain i e =
       decode-plain j (byte_at bs i) (word_at bs (i + 1)) (byte_at bs (i + 1)) (byte_at bs (i + 2)) (byte_at bs (i + 3))
-      (ltb-true (byte_at bs i) 4 (sym (takes_is 0 (byte_at bs i) (omega arith))
-      ∙ (both (takes 0 (byte_at bs i)) (argument_ok (byte_at bs i) (word_at bs (i + 1)) (byte_at bs (i + 1))
+      (ltb-true (byte_at bs i) 4 (sym (takes_is Rw (byte_at bs i))
+      ∙ (both (takes Rw (byte_at bs i)) (argument_ok (byte_at bs i) (word_at bs (i + 1)) (byte_at bs (i + 1))
       (byte_at bs (i + 3)) (five_zeros bs (i + 4))) e).0))
 
-  elements-plain : (n i : ℕ) → elements_ok 0 bs n i ≡ true → filter (names j) (elements_at bs n i) ≡ []
+  elements-plain : (n i : ℕ) → elements_ok Rw bs n i ≡ true → filter (names j) (elements_at bs n i) ≡ []
   unfolding elements_ok elements_at filter
   elements-plain zero i e = refl
   elements-plain (suc n) i e =
-      let b = both (element_ok 0 bs i) (elements_ok 0 bs n (i + 9)) e in
+      let b = both (element_ok Rw bs i) (elements_ok Rw bs n (i + 9)) e in
       filter-drops (names j) (element_at bs i) (elements_at bs n (i + 9)) (element-plain i b.0)
       ∙ elements-plain n (i + 9) b.1
 
-  relation-plain : (i : ℕ) → record_ok 0 bs i ≡ true → filter (names j) (relation_at bs i).entries ≡ []
+  relation-plain : (i : ℕ) → record_ok Rw bs i ≡ true → filter (names j) (relation_at bs i).entries ≡ []
   unfolding record_ok relation_at
   relation-plain i e =
       elements-plain (byte_at bs (i + 3)) (i + 4)
-      (both (head_ok 0 bs i) (elements_ok 0 bs (entries_of 0 bs i) (i + head_of 0))
-      (both (leb (record_end 0 bs i) (length bs)) _ (both (leb (head_of 0) (left bs i)) _ e).1).1).1
+      (both (head_ok Rw bs i) (elements_ok Rw bs (entries_of Rw bs i) (i + head_of Rw))
+      (both (leb (record_end Rw bs i) (length bs)) _ (both (leb (head_of Rw) (left bs i)) _ e).1).1).1
 
   relations-plain : (f i : ℕ)
       → filter (names j) (concat_map (λ w. w.entries)
-      (relations_at bs (count_from (record_ok 0 bs) (record_end 0 bs) f i) i)) ≡ []
+      (relations_at bs (count_from (record_ok Rw bs) (record_end Rw bs) f i) i)) ≡ []
   unfolding count_from relations_at concat_map filter
   relations-plain zero i = refl
   relations-plain (suc f) i =
-      on (record_ok 0 bs i)
+      on (record_ok Rw bs i)
       (λ e. rw e (filter-append (names j) (relation_at bs i).entries _
       ∙ ap (λ l. l ++ filter (names j) (concat_map (λ w. w.entries)
-      (relations_at bs (count_from (record_ok 0 bs) (record_end 0 bs) f (record_end 0 bs i)) (record_end 0 bs i))))
-      (relation-plain i e) ∙ relations-plain f (record_end 0 bs i)))
+      (relations_at bs (count_from (record_ok Rw bs) (record_end Rw bs) f (record_end Rw bs i)) (record_end Rw bs i))))
+      (relation-plain i e) ∙ relations-plain f (record_end Rw bs i)))
       (λ e. rw e refl)
 
-  runs-count : (i : ℕ) → (runs 0 bs i).count ≡ count_from (record_ok 0 bs) (record_end 0 bs) (length bs) i
+  runs-count : (i : ℕ) → (runs Rw bs i).count ≡ count_from (record_ok Rw bs) (record_end Rw bs) (length bs) i
   runs-count i =
-      ap (λ (r : Run). r.count) (run_is (length bs) 0 bs 0 i)
-      ∙ (let n = count_from (record_ok 0 bs) (record_end 0 bs) (length bs) i in let z : 0 + n ≡ n = omega arith in z)
+      ap (λ (r : Run). r.count) (run_is (length bs) Rw bs 0 i)
+      ∙ (let n = count_from (record_ok Rw bs) (record_end Rw bs) (length bs) i in let z : 0 + n ≡ n = omega arith in z)
 
   with-plain : (i : ℕ) (r c : Run)
       → filter (names j) (concat_map (λ w. w.entries) (relations_at bs r.count (i + 3))) ≡ []
       → filter (names j) (row_elements (described bs (block_with bs i r c))) ≡ []
   unfolding row_elements described relations_at concat_map filter
-  with-plain i r c h = on (record_ok 2 bs c.at) (λ e. rw e h) (λ e. rw e refl)
+  with-plain i r c h = on (record_ok Ol bs c.at) (λ e. rw e h) (λ e. rw e refl)
 
   -- no relation row of a block that was read names a block
   block-plain : (i : ℕ) → filter (names j) (row_elements (described bs (block bs i))) ≡ []
   unfolding row_elements described relations_at concat_map filter
   block-plain i =
-      on (record_ok 3 bs i)
+      on (record_ok Bk bs i)
       (λ e.
       ap (λ b. filter (names j) (row_elements (described bs b))) (block_is bs i e)
-      ∙ with-plain i (runs 0 bs (i + 3)) (runs 1 bs (runs 0 bs (i + 3)).at)
+      ∙ with-plain i (runs Rw bs (i + 3)) (runs Cd bs (runs Rw bs (i + 3)).at)
       (rw (runs-count (i + 3)) (relations-plain (length bs) (i + 3))))
       (λ e. ap (λ b. filter (names j) (row_elements (described bs b))) (block_bare bs i e))
 

@@ -20,105 +20,85 @@ struct Tally {
     over: bool,
 }
 
-// A byte as an index.
-fn size(x: u8) -> usize
-    ensures { (result ≡ x) × (result < 256) }
-{
-    x as usize
-}
-
-// Nothing counted.
-fn no_tally() -> Tally
-    ensures { result ≡ no_tally }
-{
-    Tally {
-        counts: [0u8; 256],
-        over: false,
+impl Tally {
+    // One more aggregate of block k.
+    #[tactic(auto, unfolding(crate::specs::Tally::bump))]
+    fn bump(&mut self, k: u8)
+        ensures { self.new ≡ bump self.old k }
+    {
+        let i = usize::from(k);
+        let n = self.counts[i];
+        if n < 4 {
+            self.counts[i] = n + 1;
+            self.over = self.over | (n == 3);
+        }
     }
-}
 
-// One more aggregate of block k.
-fn bumped(t: Tally, k: u8) -> Tally
-    ensures { result ≡ bump t k }
-{
-    let i = size(k);
-    let mut counts = t.counts;
-    let n = counts[i];
-    if n < 4 {
-        counts[i] = n + 1;
-        return Tally {
-            counts: counts,
-            over: t.over | (n == 3),
-        };
+    // The element at a place counted: an aggregate where its kind is past 3, of the block number in its third byte.
+    #[tactic(auto, using(crate::proofs::Steps::named, crate::proofs::Steps::other))]
+    fn count_at(&mut self, s: &[u8], at: usize)
+        requires { at ≤ length s.now + 12 }
+        ensures { self.new ≡ tally_of self.old (element_at s.now at) }
+    {
+        if byte_at(s, at) > 3 {
+            self.bump(byte_at(s, at + 2));
+        }
     }
-    t
-}
 
-// The element at a place counted: an aggregate where its kind is past 3, of the block number in its third byte.
-fn count_at(s: &[u8], at: usize, t: Tally) -> Tally
-    requires { at ≤ length s.now + 12 }
-    ensures { result ≡ tally_of t (element_at s.now at) }
-{
-    if byte_at(s, at) > 3 {
-        return bumped(t, byte_at(s, at + 2));
+    // n elements from a place on counted. Those past the end are empty.
+    #[tactic(auto, unfolding(crate::specs::Tally::tally_all))]
+    fn count_elements(&mut self, s: &[u8], at: usize, n: usize)
+        ensures { self.new ≡ tally_all self.old (elements_at s.now n at) }
+    {
+        for i in each_element(s, at, n) {
+            self.count_at(s, i);
+        }
     }
-    t
-}
 
-// n elements from a place on counted. Those past the end are empty: the walk stops where the bytes end.
-#[tactic(auto, using(crate::proofs::Steps::elements_counted), unfolding(crate::specs::Tally::tally_all))]
-fn count_elements(s: &[u8], at: usize, n: usize, t: Tally) -> Tally
-    ensures { result ≡ tally_all t (elements_at s.now n at) }
-{
-    let mut y = t;
-    for i in each_element(s, at, n) {
-        y = count_at(s, i, y);
+    // The two elements of n conditions from a place on counted.
+    #[tactic(auto, unfolding(crate::specs::Tally::tally_all, model::specs::Lists::concat_map, syntax::specs::Described::condition_at))]
+    fn count_conditions(&mut self, s: &[u8], at: usize, n: usize)
+        ensures { self.new ≡ tally_all self.old (concat_map sides (conditions_at s.now n at)) }
+    {
+        for i in each_condition(s, at, n) {
+            self.count_at(s, i + 3);
+            self.count_at(s, i + 12);
+        }
     }
-    y
-}
 
-// The two elements of n conditions from a place on counted.
-#[tactic(auto, using(crate::proofs::Steps::conditions_counted), unfolding(crate::specs::Tally::tally_all, model::specs::Lists::concat_map, syntax::specs::Described::condition_at))]
-fn count_conditions(s: &[u8], at: usize, n: usize, t: Tally) -> Tally
-    ensures { result ≡ tally_all t (concat_map sides (conditions_at s.now n at)) }
-{
-    let mut y = t;
-    for i in each_condition(s, at, n) {
-        y = count_at(s, i + 12, count_at(s, i + 3, y));
+    // The elements of a block's conditions and of its output list counted. Relation rows hold no aggregate.
+    #[tactic(auto, using(crate::proofs::Steps::block_is))]
+    fn count_block(&mut self, s: &[u8], b: Block)
+        ensures { self.new ≡ tally_all self.old (other_elements (described s.now b)) }
+    {
+        self.count_conditions(s, b.conditions_at, b.conditions);
+        self.count_elements(s, b.outputs_at, b.outputs);
     }
-    y
-}
-
-// The elements of a block's conditions and of its output list counted. Relation rows hold no aggregate.
-fn count_block(s: &[u8], b: Block, t: Tally) -> Tally
-    ensures { result ≡ tally_all t (other_elements (described s.now b)) }
-{
-    let y = count_conditions(s, b.conditions_at, b.conditions, t);
-    count_elements(s, b.outputs_at, b.outputs, y)
 }
 
 // The blocks of a question counted.
+#[tactic(auto, using(crate::proofs::Steps::blocks_turn, crate::proofs::Steps::blocks_done), unfolding(syntax::specs::Described::blocks_in))]
 fn count_blocks(s: &[u8], q: Question) -> Tally
     requires { q.count ≤ 5 }
     ensures { result ≡ tally_all no_tally (others_in s.now q) }
 {
-    let mut y = no_tally();
-    let mut k = 0;
-    let n = q.count;
-    while k < n {
-        y = count_block(s, q.blocks[k], y);
-        k += 1;
+    let mut y = Tally {
+        counts: [0; 256],
+        over: false,
+    };
+    for b in &q.blocks[..q.count] {
+        y.count_block(s, *b);
     }
     y
 }
 
 // Whether the limits of number 6 hold of the question that was read from the bytes.
+#[tactic(auto, using(crate::proofs::Counted::over_is), unfolding(crate::specs::Limits::within_in))]
 pub fn within(s: &[u8], q: Question) -> bool
     ensures { result ≡ within_in s.now q }
 {
     if (q.count > 0) & (q.count < 6) & q.within {
-        let t = count_blocks(s, q);
-        return !t.over;
+        return !count_blocks(s, q).over;
     }
     false
 }

@@ -31,11 +31,11 @@ pub struct Head {
     pub kind: u8,
 }
 
-// Where a run of records ends, and how many it has.
+// Where a run of records ends, and how many it has. Public, since the definitions name it.
 #[derive(Clone, Copy)]
-struct Run {
-    at: usize,
-    count: usize,
+pub struct Run {
+    pub at: usize,
+    pub count: usize,
 }
 
 // Where the records of a block lie, and how many there are.
@@ -121,9 +121,9 @@ pub fn condition_end(s: &[u8], at: usize) -> usize
     at
 }
 
-// The records of a question, each named by its mark.
+// The records of a question, each named by its mark. Public, since the definitions that contracts cite name it.
 #[derive(Clone, Copy)]
-enum Record {
+pub enum Record {
     Rw,
     Cd,
     Ol,
