@@ -6,6 +6,7 @@
 use Rattle.std.specs.Prelude.{Bool, ◌&&◌, ◌||◌, eqb, ltb}
 use Rattle.model.specs.Question.{Element}
 use Rattle.syntax.specs.Described.{decode}
+use Rattle.syntax.specs.Places.{no_block}
 use Rattle.syntax.specs.declared.Block.{Block}
 use Rattle.syntax.specs.declared.Item.{Item}
 
@@ -19,14 +20,4 @@ abbrev pub is_average : Item → Bool
 is_average e = ltb 3 e.kind && ltb 3 e.function
 
 abbrev pub absent_block : Block
-absent_block =
-    record {
-      parent = 255;
-      rows_at = 0;
-      rows = 0;
-      conditions_at = 0;
-      conditions = 0;
-      outputs_at = 0;
-      outputs = 0;
-      end = 0;
-    }
+absent_block = record no_block { parent = 255 }

@@ -1,48 +1,32 @@
+use Prim.Native.Nat.{◌-◌, ◌+◌}
 use native.Mathlib.Omega.{arith}
-use mathlib.Core.Path.{refl}
-use Rattle.scope.proofs.GatheringLaws.{going, stopped}
+use mathlib.Core.Logic.{inl, inr}
+use mathlib.Core.Path.{◌≡◌, refl}
 use Rattle.scope.proofs.BlockLaws.{level-turn, level-stop}
 use Rattle.scope.proofs.level.Goals as goal
 
 -- none is counted
-pub loop-left-init : goal.loop-left-init
-loop-left-init c = (refl, λ bs. refl)
+pub loop-n-init : goal.loop-n-init
+loop-n-init c = λ bs. refl
 
-pub block_of-b-requires : goal.block_of-b-requires
-block_of-b-requires c = tt
-
-pub overflow_add-n : goal.overflow_add-n
-overflow_add-n c =
-    let l = c.loop-left in
-    let g = going l.left 0 l.at c.loop-left-test.true in
-    omega arith
-
-pub overflow_sub-left : goal.overflow_sub-left
-overflow_sub-left c =
-    let l = c.loop-left in
-    let g = going l.left 0 l.at c.loop-left-test.true in
-    omega arith
-
-pub loop-left-smaller : goal.loop-left-smaller
-loop-left-smaller c =
-    let l = c.loop-left in
-    let g = going l.left 0 l.at c.loop-left-test.true in
-    omega arith
+-- block 0 is reached
+pub returns-then-at-eq0 : goal.returns-then-at-eq0
+returns-then-at-eq0 c =
+    let l = c.loop-n in
+    λ bs. level-stop bs c.args.q l.n l.at _ (6 - l.n) (inr (omega arith)) (l.invariant bs)
 
 -- one step up
-pub loop-left-preserved : goal.loop-left-preserved
-loop-left-preserved c =
-    let l = c.loop-left in
-    let g = going l.left 0 l.at c.loop-left-test.true in
-    let b = c.block_of-b in (
-      omega arith,
-      λ bs. level-turn bs c.args.q l.n l.at _ l.left b.result g.0 g.1
-          (b.ensures bs) (l.invariant.1 bs),
-    )
+pub loop-n-preserved : goal.loop-n-preserved
+loop-n-preserved c =
+    let l = c.loop-n in
+    let left : 6 - (l.n + 1) ≡ 6 - l.n - 1 = omega arith in
+    λ bs. rw left
+    (level-turn bs c.args.q l.n l.at _ (6 - l.n) c.block_of-at.result (omega arith) (omega arith)
+    (c.block_of-at.ensures bs) (l.invariant bs))
 
--- block 0 is reached, or five steps are taken
+-- five steps are taken
 pub returns : goal.returns
 returns c =
-    let l = c.loop-left in
-    let halt = stopped l.left 0 l.at c.loop-left-test.false in
-    λ bs. level-stop bs c.args.q l.n l.at _ l.left halt (l.invariant.1 bs)
+    let l = c.loop-n in
+    let six : l.n ≡ 6 = omega arith in
+    λ bs. level-stop bs c.args.q 6 l.at _ (6 - 6) (inl refl) (rw six at (l.invariant bs))

@@ -1,30 +1,17 @@
 -- An output column of the block that starts in the bytes is the item at its place; any other is the item past the end,
 -- which is empty.
 -- Assumes nothing.
-use native.Mathlib.Omega.{arith}
-use borrow.Author.Tests.{ltb-true}
-use lib.Dec.{ltb}
-use lib.ListN.{length}
-use Rattle.syntax.proofs.Laws.{both}
 use Rattle.scope.proofs.BlockLaws.{output-found, output-missing}
 use Rattle.scope.proofs.output_of.Goals as goal
-
-pub overflow_add-at : goal.overflow_add-at
-overflow_add-at c =
-    let b = c.block_of-b.result in
-    let k = c.size-c in
-    let inside = (both (ltb k.result b.outputs) _ c.if-c-b.true).1 in
-    let s = c.args.s.now in
-    omega (arith, ltb-true b.outputs_at (length s) inside, k.ensures.1)
 
 -- the column is there
 pub returns-then-c-b : goal.returns-then-c-b
 returns-then-c-b c =
     let a = c.args in
     let b = c.block_of-b in
-    let k = c.size-c in
+    let k = c.from-c in
     let s = a.s.now in
-    output-found s _ b.result (b.ensures s) k.result a.column k.ensures.0 c.item_at.result
+    output-found s _ b.result (b.ensures s) k.result a.column k.ensures c.item_at.result
     c.if-c-b.true c.item_at.ensures
 
 -- it is not
@@ -32,7 +19,7 @@ pub returns : goal.returns
 returns c =
     let a = c.args in
     let b = c.block_of-b in
-    let k = c.size-c in
+    let k = c.from-c in
     let s = a.s.now in
-    output-missing s _ b.result (b.ensures s) k.result a.column k.ensures.0 c.item_at-2.result
+    output-missing s _ b.result (b.ensures s) k.result a.column k.ensures c.item_at-2.result
     c.if-c-b.false c.item_at-2.ensures
