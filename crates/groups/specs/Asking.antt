@@ -1,17 +1,9 @@
 -- Which aggregates name each block (01: "At most three aggregate elements name one block number").
---   asking fs cs         what asks for the functions fs of the columns cs, no count being told
---   Slots fs cs          there are fifteen of each, three slots for each of five blocks
 --   function_at a j       the function in slot j, 255 where there is none; column_at a j: its column
 --   asks_at a j f c       slot j asks for function f of column c
 --   slot_of a k f c       which of the three slots of block k does, 3 where none does
-use Rattle.std.specs.Prelude.{ℕ, ◌+◌, ◌*◌, Bool, ◌&&◌, cond, List, [], ◌≡◌, eqb, length, get_or}
+use Rattle.std.specs.Prelude.{ℕ, ◌+◌, ◌*◌, Bool, ◌&&◌, cond, eqb, get_or}
 use Rattle.groups.specs.declared.Asked.{Asked}
-
-abbrev pub asking : List ℕ → List ℕ → Asked
-asking fs cs = record { functions = fs; columns = cs; counts = [] }
-
-abbrev pub Slots : List ℕ → List ℕ → Type 0
-Slots fs cs = (length fs ≡ 15) × (length cs ≡ 15)
 
 abbrev pub function_at : Asked → ℕ → ℕ
 function_at a j = get_or a.functions j 255
