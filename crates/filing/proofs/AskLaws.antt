@@ -11,7 +11,8 @@ use lib.Dec.{T, eqb, ltb, leb, leb→le}
 use lib.ListN.{length, set, length-append, length-set, length-replicate, get_or-replicate}
 use lib.Seq.{get_or-set_same, get_or-set_other}
 use borrow.Author.Tests.{eq-eqb, eqb-true, ltb-true, lt-ltb}
-use Rattle.groups.specs.Asking.{function_at, column_at, asks_at, slot_of}
+use Rattle.groups.specs.Asking.{no_ask, asked_at, function_at, column_at, asks_at, slot_of}
+use Rattle.groups.specs.declared.Ask.{Ask}
 use Rattle.groups.specs.declared.Asked.{Asked}
 use Rattle.limits.specs.Limits.{names_of}
 use Rattle.model.proofs.ListEquations.{filter-keeps, filter-drops}
@@ -26,8 +27,7 @@ use Rattle.filing.specs.Asks.{no_asked, kept_of, ask, ask_of, ask_all}
 
 -- three slots for each of five blocks, of which at most three are kept
 record Well (a : Asked) : Type 0 where
-  pub functions : length a.functions ≡ 15
-  pub columns : length a.columns ≡ 15
+  pub slots : length a.slots ≡ 15
   pub counts : length a.counts ≡ 5
   pub few : (k : ℕ) → k < 5 → kept_of a k ≤ 3
 
@@ -35,14 +35,12 @@ record Well (a : Asked) : Type 0 where
 record Has (a : Asked) (k f c : ℕ) : Type 0 where
   pub slot : ℕ
   pub kept : slot < kept_of a k
-  pub function : function_at a (3 * k + slot) ≡ f
-  pub column : column_at a (3 * k + slot) ≡ c
+  pub asks : asked_at a (3 * k + slot) ≡ record { function = f; column = c }
 
 well_none : Well no_asked
 well_none =
     record {
-      functions = length-replicate {A = ℕ} 15 255;
-      columns = length-replicate {A = ℕ} 15 255;
+      slots = length-replicate 15 no_ask;
       counts = length-replicate {A = ℕ} 5 0;
       few = λ k h. let e = get_or-replicate {A = ℕ} 5 k 0 0 h in omega (arith, e);
     }
@@ -59,8 +57,7 @@ module _ (a : Asked) (w : Well a) (f b c : ℕ) (h : b < 5) (few : kept_of a b <
   abbrev next : Asked
   next =
       record {
-        functions = set a.functions (3 * b + kept_of a b) f;
-        columns = set a.columns (3 * b + kept_of a b) c;
+        slots = set a.slots (3 * b + kept_of a b) (record { function = f; column = c });
         counts = set a.counts b (kept_of a b + 1);
       }
 
@@ -80,8 +77,7 @@ module _ (a : Asked) (w : Well a) (f b c : ℕ) (h : b < 5) (few : kept_of a b <
   next-well : Well next
   next-well =
       record {
-        functions = length-set a.functions (3 * b + kept_of a b) f ∙ w.functions;
-        columns = length-set a.columns (3 * b + kept_of a b) c ∙ w.columns;
+        slots = length-set a.slots (3 * b + kept_of a b) (record { function = f; column = c }) ∙ w.slots;
         counts = length-set a.counts b (kept_of a b + 1) ∙ w.counts;
         few = next-few;
       }
@@ -91,8 +87,7 @@ module _ (a : Asked) (w : Well a) (f b c : ℕ) (h : b < 5) (few : kept_of a b <
       record {
         slot = kept_of a b;
         kept = omega (arith, kept_here);
-        function = get_or-set_same a.functions (3 * b + kept_of a b) f 255 (omega (arith, w.functions));
-        column = get_or-set_same a.columns (3 * b + kept_of a b) c 255 (omega (arith, w.columns));
+        asks = get_or-set_same a.slots (3 * b + kept_of a b) (record { function = f; column = c }) no_ask (omega (arith, w.slots));
       }
 
   next-keeps : (k g d : ℕ) → k < 5 → Has a k g d → Has next k g d
@@ -100,8 +95,7 @@ module _ (a : Asked) (w : Well a) (f b c : ℕ) (h : b < 5) (few : kept_of a b <
       record {
         slot = x.slot;
         kept = more (ℕ_discrete k b);
-        function = get_or-set_other a.functions (3 * b + kept_of a b) (3 * k + x.slot) f 255 apart ∙ x.function;
-        column = get_or-set_other a.columns (3 * b + kept_of a b) (3 * k + x.slot) c 255 apart ∙ x.column;
+        asks = get_or-set_other a.slots (3 * b + kept_of a b) (3 * k + x.slot) (record { function = f; column = c }) no_ask apart ∙ x.asks;
       }
     where
       more : Dec (k ≡ b) → x.slot < kept_of next k
@@ -129,8 +123,7 @@ module _ (a : Asked) (w : Well a) (f b c : ℕ) (h : b < 5) (few : kept_of a b <
 -- ---- an aggregate asked for
 module _ (a : Asked) (w : Well a) where
   ask-next : (f b c : ℕ) → b < 5 → kept_of a b < 3 → (P : Asked → Type 0) → P (record {
-    functions = set a.functions (3 * b + kept_of a b) f;
-    columns = set a.columns (3 * b + kept_of a b) c;
+    slots = set a.slots (3 * b + kept_of a b) (record { function = f; column = c });
     counts = set a.counts b (kept_of a b + 1);
   }) → P (ask a f b c)
   unfolding ask
@@ -143,8 +136,7 @@ module _ (a : Asked) (w : Well a) where
   -- what holds of the next and of a itself, holds
   ask-cases : (f b c : ℕ) (P : Asked → Type 0) → P a
       → (b < 5 → kept_of a b < 3 → P (record {
-        functions = set a.functions (3 * b + kept_of a b) f;
-        columns = set a.columns (3 * b + kept_of a b) c;
+        slots = set a.slots (3 * b + kept_of a b) (record { function = f; column = c });
         counts = set a.counts b (kept_of a b + 1);
       })) → P (ask a f b c)
   ask-cases f b c P p q =
@@ -257,7 +249,7 @@ module _ (a : Asked) (k f c : ℕ) where
   has-told : Well a → k < 5 → Has a k f c → Told (slot_of a k f c)
   has-told w i x =
       slot_told x.slot (omega (arith, x.kept, w.few k i))
-      (ap₂ ◌&&◌ (eq-eqb _ f x.function) (eq-eqb _ c x.column))
+      (ap₂ ◌&&◌ (eq-eqb _ f (ap (λ (y : Ask). y.function) x.asks)) (eq-eqb _ c (ap (λ (y : Ask). y.column) x.asks)))
 
 well_all : (a : Asked) (es : List Element) → Well a → Well (ask_all a es)
 unfolding ask_all

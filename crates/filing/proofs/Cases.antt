@@ -10,10 +10,11 @@ use lib.Seq.{take_all}
 use lib.Signed.{le_z}
 use borrow.Author.Tests.{lt-ltb, le-ltb, lt-leb, le-leb, eq-eqb, ne_eqb}
 use borrow.Rule.Slice.PartMut.{put_mid, mid_of}
-use Rattle.groups.specs.Asking.{function_at, column_at}
+use Rattle.groups.specs.Asking.{no_ask, asked_at, function_at, column_at}
 use Rattle.groups.specs.Groups.{mark_place, slot_place}
+use Rattle.groups.specs.declared.Ask.{Ask}
 use Rattle.groups.specs.declared.Asked.{Asked}
-use Rattle.groups.proofs.GroupLaws.{default-inside, default-past}
+use Rattle.std.proofs.lemmas.List.{get_or_past}
 use Rattle.aggregates.specs.Columns.{aggregate_in}
 use Rattle.words.specs.Words.{read_at, words_with, words_zeroed}
 use Rattle.filing.specs.Files.{is_filed, words_before, words_in, emptied, told, slot_value, slot_filed}
@@ -92,23 +93,20 @@ slots_end a k n columns count i sets start fl h g so_far =
     ∙ (let e : i ≡ 3 = omega arith in ap (slots_to a k n columns count sets start) e)
 
 -- past the fifth block no slot asks for anything
-pub slots_past : (a : Asked) (k n columns count : ℕ) (sets start : List ℤ) → length a.functions ≡ 15 → 5 ≤ k
+pub slots_past : (a : Asked) (k n columns count : ℕ) (sets start : List ℤ) → length a.slots ≡ 15 → 5 ≤ k
     → start ≡ slots_filed a k n columns count sets start
 unfolding slots_filed
 slots_past a k n columns count sets start long h = sym (none 2 _ ∙ none 1 _ ∙ none 0 start)
   where
     none : (i : ℕ) (fl : List ℤ) → slot_filed a k n i columns count sets fl ≡ fl
     none i fl =
-        slot-none a k n i columns count sets fl (default-past a.functions (3 * k + i) 255 (omega arith))
+        slot-none a k n i columns count sets fl (ap (λ (x : Ask). x.function) (get_or_past a.slots (3 * k + i) no_ask (omega arith)))
 
--- the two ways through slot i: b is the block's number, f what the array has there
-module _ (a : Asked) (k n columns count b i f : ℕ) (sets start fl : List ℤ) (same : b ≡ k)
-    (inside : 3 * b + i < length a.functions) (function : f ≡ get_or a.functions (3 * b + i) 0)
-    (so_far : fl ≡ slots_to a k n columns count sets start i) where
-  function-is : function_at a (3 * k + i) ≡ f
-  function-is =
-      ap (λ j. function_at a (3 * j + i)) (sym same)
-      ∙ sym (function ∙ default-inside a.functions (3 * b + i) 0 255 inside)
+-- the two ways through slot i: b is the block's number, x what the array has there
+module _ (a : Asked) (k n columns count b i : ℕ) (x : Ask) (sets start fl : List ℤ) (same : b ≡ k)
+    (there : x ≡ asked_at a (3 * b + i)) (so_far : fl ≡ slots_to a k n columns count sets start i) where
+  asks : asked_at a (3 * k + i) ≡ x
+  asks = ap (λ j. asked_at a (3 * j + i)) (sym same) ∙ sym there
 
   more : slot_filed a k n i columns count sets fl ≡ slots_to a k n columns count sets start (i + 1)
   unfolding slots_to
@@ -116,24 +114,18 @@ module _ (a : Asked) (k n columns count b i f : ℕ) (sets start fl : List ℤ) 
       let e : i + 1 ≡ suc i = omega arith in
       ap (slot_filed a k n i columns count sets) so_far ∙ ap (slots_to a k n columns count sets start) (sym e)
 
-  pub slots-left : f ≡ 255 → fl ≡ slots_to a k n columns count sets start (i + 1)
-  slots-left e = sym (slot-none a k n i columns count sets fl (function-is ∙ e)) ∙ more
+  pub slots-left : x.function ≡ 255 → fl ≡ slots_to a k n columns count sets start (i + 1)
+  slots-left e = sym (slot-none a k n i columns count sets fl (ap (λ (y : Ask). y.function) asks ∙ e)) ∙ more
 
-  pub slots-put : (c at : ℕ) (out : List ℤ) → (f ≡ 255 → ⊥) → 3 * b + i < length a.columns
-      → c ≡ get_or a.columns (3 * b + i) 0 → at ≡ slot_place k n 0
-      → out ≡ words_with fl (at + i) (told (aggregate_in f c columns count sets))
+  pub slots-put : (at : ℕ) (out : List ℤ) → (x.function ≡ 255 → ⊥) → at ≡ slot_place k n 0
+      → out ≡ words_with fl (at + i) (told (aggregate_in x.function x.column columns count sets))
       → out ≡ slots_to a k n columns count sets start (i + 1)
-  slots-put c at out h there column place put =
+  slots-put at out h place put =
       put
       ∙ ap₂ (words_with fl) (let e : at + i ≡ slot_place k n i = omega arith in e)
-      (ap told asked ∙ sym (slot_value_is a k i columns count sets))
-      ∙ sym (slot-some a k n i columns count sets fl (λ e. h (sym function-is ∙ e))) ∙ more
-    where
-      asked : aggregate_in f c columns count sets
-          ≡ aggregate_in (function_at a (3 * k + i)) (column_at a (3 * k + i)) columns count sets
-      asked =
-          ap₂ (λ u w. aggregate_in u w columns count sets) (sym function-is)
-          (column ∙ default-inside a.columns (3 * b + i) 0 255 there ∙ ap (λ j. column_at a (3 * j + i)) same)
+      (ap (λ (y : Ask). told (aggregate_in y.function y.column columns count sets)) (sym asks)
+      ∙ sym (slot_value_is a k i columns count sets))
+      ∙ sym (slot-some a k n i columns count sets fl (λ e. h (ap (λ (y : Ask). y.function) (sym asks) ∙ e))) ∙ more
 
 -- ---- a group filled
 module _ (a : Asked) (k n columns count : ℕ) (sets fl : List ℤ) where

@@ -12,7 +12,8 @@ use lib.ListN.{length, get_or, set, length-append, length-replicate, get_or-repl
 use lib.ListN.{get_or-eq_default, length-set}
 use lib.Seq.{get_or-set_same, get_or-set_other, get_or-append_seam}
 use borrow.Author.Tests.{eq-eqb, ne_eqb, ltb-true, ltb-false, lt-ltb}
-use Rattle.groups.specs.Asking.{function_at, column_at}
+use Rattle.groups.specs.Asking.{no_ask, asked_at, function_at, column_at}
+use Rattle.groups.specs.declared.Ask.{Ask}
 use Rattle.groups.specs.declared.Asked.{Asked}
 use Rattle.model.specs.Lists.{concat_map}
 use Rattle.model.specs.Question.{Element, empty, constant, variable, fixed, aggregate}
@@ -26,13 +27,15 @@ Pairs = List (ℕ × ℕ)
 abbrev none : ℕ × ℕ
 none = (255, 255)
 
+abbrev pair : Ask → ℕ × ℕ
+pair x = (x.function, x.column)
+
 abbrev held : Asked → ℕ → ℕ × ℕ
-held a j = (function_at a j, column_at a j)
+held a j = pair (asked_at a j)
 
 -- the slots of each block hold the first three of its list
 record Slots (a : Asked) (l : ℕ → Pairs) : Type 0 where
-  pub functions : length a.functions ≡ 15
-  pub columns : length a.columns ≡ 15
+  pub long : length a.slots ≡ 15
   pub counts : length a.counts ≡ 5
   pub kept : (k : ℕ) → k < 5 → kept_of a k ≡ min (length (l k)) 3
   pub slots : (k j : ℕ) → k < 5 → j < 3 → held a (3 * k + j) ≡ get_or (l k) j none
@@ -40,23 +43,20 @@ record Slots (a : Asked) (l : ℕ → Pairs) : Type 0 where
 slots_none : Slots no_asked (λ k. [])
 slots_none =
     record {
-      functions = length-replicate {A = ℕ} 15 255;
-      columns = length-replicate {A = ℕ} 15 255;
+      long = length-replicate 15 no_ask;
       counts = length-replicate {A = ℕ} 5 0;
       kept = λ k h. get_or-replicate {A = ℕ} 5 k 0 0 h;
       slots =
           λ k j h g.
           let i : 3 * k + j < 15 = omega arith in
-          ap₂ (λ x y. (x, y)) (get_or-replicate {A = ℕ} 15 (3 * k + j) 255 255 i)
-          (get_or-replicate {A = ℕ} 15 (3 * k + j) 255 255 i);
+          ap pair (get_or-replicate 15 (3 * k + j) no_ask no_ask i);
     }
 
 -- lists that are equal tell the same
 slots_same : (a : Asked) (l m : ℕ → Pairs) → Slots a l → ((k : ℕ) → k < 5 → m k ≡ l k) → Slots a m
 slots_same a l m s e =
     record {
-      functions = s.functions;
-      columns = s.columns;
+      long = s.long;
       counts = s.counts;
       kept = λ k h. s.kept k h ∙ ap (λ x. min (length x) 3) (sym (e k h));
       slots = λ k j h g. s.slots k j h g ∙ ap (λ x. get_or x j none) (sym (e k h));
@@ -91,21 +91,18 @@ module _ (a : Asked) (l : ℕ → Pairs) (s : Slots a l) (f b c : ℕ) where
     abbrev next : Asked
     next =
         record {
-          functions = set a.functions (3 * b + kept_of a b) f;
-          columns = set a.columns (3 * b + kept_of a b) c;
+          slots = set a.slots (3 * b + kept_of a b) (record { function = f; column = c });
           counts = set a.counts b (kept_of a b + 1);
         }
 
     next-there : (j : ℕ) → (j ≡ 3 * b + kept_of a b → ⊥) → held next j ≡ held a j
     next-there j n =
-        ap₂ (λ x y. (x, y)) (get_or-set_other a.functions (3 * b + kept_of a b) j f 255 n)
-        (get_or-set_other a.columns (3 * b + kept_of a b) j c 255 n)
+        ap pair (get_or-set_other a.slots (3 * b + kept_of a b) j (record { function = f; column = c }) no_ask n)
 
     next_here : held next (3 * b + kept_of a b) ≡ (f, c)
     next_here =
-        ap₂ (λ x y. (x, y))
-        (get_or-set_same a.functions (3 * b + kept_of a b) f 255 (omega (arith, s.functions)))
-        (get_or-set_same a.columns (3 * b + kept_of a b) c 255 (omega (arith, s.columns)))
+        ap pair
+        (get_or-set_same a.slots (3 * b + kept_of a b) (record { function = f; column = c }) no_ask (omega (arith, s.long)))
 
     is-kept : length (l b) ≡ kept_of a b
     is-kept = omega (arith, s.kept b h)
@@ -152,8 +149,7 @@ module _ (a : Asked) (l : ℕ → Pairs) (s : Slots a l) (f b c : ℕ) where
     slots_next : Slots next m
     slots_next =
         record {
-          functions = length-set a.functions (3 * b + kept_of a b) f ∙ s.functions;
-          columns = length-set a.columns (3 * b + kept_of a b) c ∙ s.columns;
+          long = length-set a.slots (3 * b + kept_of a b) (record { function = f; column = c }) ∙ s.long;
           counts = length-set a.counts b (kept_of a b + 1) ∙ s.counts;
           kept = next-kept;
           slots = next-slots;
@@ -167,8 +163,7 @@ module _ (a : Asked) (l : ℕ → Pairs) (s : Slots a l) (f b c : ℕ) where
   slots-full : (b < 5 → 3 ≤ kept_of a b) → Slots a m
   slots-full full =
       record {
-        functions = s.functions;
-        columns = s.columns;
+        long = s.long;
         counts = s.counts;
         kept = λ k i. kept k i (ℕ_discrete k b);
         slots = λ k j i g. slots k j i g (ℕ_discrete k b);

@@ -1,5 +1,5 @@
 -- One turn of each walk over plain values: what is asked for after it, and what a walk that stops leaves.
-use Prim.Native.Nat.{ℕ, zero, suc, ◌+◌, ◌*◌, ◌-◌, ◌≤◌, ◌<◌}
+use Prim.Native.Nat.{ℕ, zero, suc, ◌+◌, ◌*◌, ◌-◌, ◌≤◌, ◌<◌, min}
 use native.Mathlib.Omega.{arith}
 use mathlib.Core.Bool.{true, false, ◌&&◌}
 use mathlib.Core.List.{List, [], ◌∷◌, ◌++◌, map}
@@ -7,14 +7,15 @@ use mathlib.Core.Logic.{◌⊎◌, inl, inr, ⊎_elim}
 use mathlib.Core.Path.{◌≡◌, refl, sym, ap, ◌∙◌}
 use lib.Dec.{ltb}
 use native.Mathlib.Numerals.{add-one}
-use lib.ListN.{length, get_or, set, take, drop}
+use lib.ListN.{length, get_or, set, take, drop, replicate}
 use lib.Seq.{drop-nil}
 use borrow.Author.Tests.{lt-ltb, le-ltb, ltb-true, ltb-false}
 use Rattle.groups.specs.declared.Asked.{Asked}
 use Rattle.limits.specs.Limits.{others_in}
 use Rattle.model.specs.Lists.{concat_map}
-use Rattle.model.specs.Question.{Element, other_elements}
-use Rattle.syntax.proofs.Conditions.{past-stays, conditions_next}
+use Rattle.model.specs.Question.{Element, empty, Condition, other_elements}
+use Rattle.syntax.proofs.WalkLaws.{elements_walk, conditions_walk}
+use Rattle.syntax.specs.Walks.{element_places, condition_places}
 use Rattle.syntax.proofs.Elements.{le-or}
 use Rattle.syntax.proofs.Laws.{byte_past, both, on}
 use Rattle.syntax.specs.Described.{decode, element_at, elements_at, condition_at, conditions_at, described, blocks_in}
@@ -22,18 +23,6 @@ use Rattle.syntax.specs.Places.{byte_at, word_at, condition_end, no_block}
 use Rattle.syntax.specs.declared.Block.{Block}
 use Rattle.syntax.specs.declared.Question.{Question}
 use Rattle.filing.specs.Asks.{ask, ask_of, ask_all, sides}
-
--- a walk goes on while some are left and the place is in the bytes
-pub going : (n i l : ℕ) → ltb 0 n && ltb i l ≡ true → (0 < n) × (i < l)
-going n i l e = let b = both (ltb 0 n) (ltb i l) e in (ltb-true 0 n b.0, ltb-true i l b.1)
-
--- a walk over the blocks goes on while some are left, five at most
-pub going-blocks : (k n : ℕ) → ltb k 5 && ltb k n ≡ true → (k < 5) × (k < n)
-going-blocks k n e = let b = both (ltb k 5) (ltb k n) e in (ltb-true k 5 b.0, ltb-true k n b.1)
-
-pub stopped : (n i l : ℕ) → ltb 0 n && ltb i l ≡ false → (n ≤ 0) ⊎ (l ≤ i)
-stopped n i l e =
-    on (ltb 0 n) (λ a. inr (ltb-false i l (rw a at e))) (λ a. inl (ltb-false 0 n a))
 
 -- a function of a column of block k, where the block is past the fifth, has three, has fewer
 pub ask_far : (a : Asked) (f k i c : ℕ) → i ≡ k → 5 ≤ i → a ≡ ask a f k c
@@ -46,8 +35,7 @@ ask_full a f k i c e h g = rw (sym e, lt-ltb i 5 h, le-ltb (get_or a.counts i 0)
 
 pub ask_more : (a : Asked) (f k i c n : ℕ) → i ≡ k → i < 5 → get_or a.counts i 0 < 3 → n ≡ get_or a.counts i 0
     → record {
-      functions = set a.functions (3 * i + n) f;
-      columns = set a.columns (3 * i + n) c;
+      slots = set a.slots (3 * i + n) (record { function = f; column = c });
       counts = set a.counts i (get_or a.counts i 0 + 1);
     } ≡ ask a f k c
 unfolding ask
@@ -82,56 +70,36 @@ module _ (bs : List ℕ) where
   other t i h =
       decode-other t (byte_at bs i) (word_at bs (i + 1)) (byte_at bs (i + 1)) (byte_at bs (i + 2)) (byte_at bs (i + 3)) h
 
-  -- past the end every element is empty
-  pub past : (t : Asked) (i : ℕ) → length bs ≤ i → ask_of t (element_at bs i) ≡ t
-  past t i h = sym (other t i (let e = byte_past bs i h in omega arith))
-
-  pub elements_turn : (t : Asked) (n i : ℕ) → 0 < n
-      → ask_all t (elements_at bs n i) ≡ ask_all (ask_of t (element_at bs i)) (elements_at bs (n - 1) (i + 9))
-  unfolding ask_all elements_at
-  elements_turn t zero i h = absurd (omega arith)
-  elements_turn t (suc n) i h = let p : suc n - 1 ≡ n = omega arith in simp p
-
-  elements-past : (t : Asked) (n i : ℕ) → length bs ≤ i → ask_all t (elements_at bs n i) ≡ t
-  unfolding ask_all elements_at
-  elements-past t zero i h = refl
-  elements-past t (suc n) i h =
-      ap (λ u. ask_all u (elements_at bs n (i + 9))) (past t i h) ∙ elements-past t n (i + 9) (omega arith)
-
-  pub elements_done : (t : Asked) (n i : ℕ) → ltb 0 n && ltb i (length bs) ≡ false → ask_all t (elements_at bs n i) ≡ t
-  unfolding ask_all elements_at
-  elements_done t zero i e = refl
-  elements_done t (suc n) i e =
-      ⊎_elim (λ h. absurd (omega arith)) (λ h. elements-past t (suc n) i h) (stopped (suc n) i (length bs) e)
-
-  pub conditions-turn : (t : Asked) (n i : ℕ) → 0 < n
-      → ask_all t (concat_map sides (conditions_at bs n i))
-      ≡ ask_all (ask_of (ask_of t (element_at bs (i + 3))) (element_at bs (i + 12)))
-      (concat_map sides (conditions_at bs (n - 1) (condition_end bs i)))
-  unfolding ask_all condition_at concat_map
-  conditions-turn t n i h = ap (λ l. ask_all t (concat_map sides l)) (conditions_next bs n i h)
-
-  conditions-past : (t : Asked) (n i : ℕ) → length bs ≤ i → ask_all t (concat_map sides (conditions_at bs n i)) ≡ t
-  unfolding ask_all conditions_at concat_map
-  conditions-past t zero i h = refl
-  conditions-past t (suc n) i h =
-      conditions-turn t (suc n) i (omega arith)
-      ∙ (let p : suc n - 1 ≡ n = omega arith in
-      rw (p, past t (i + 3) (omega arith), past t (i + 12) (omega arith))
-      (conditions-past t n (condition_end bs i) (past-stays bs i h)))
-
-  pub conditions-done : (t : Asked) (n i : ℕ) → ltb 0 n && ltb i (length bs) ≡ false
-      → ask_all t (concat_map sides (conditions_at bs n i)) ≡ t
-  unfolding ask_all conditions_at concat_map
-  conditions-done t zero i e = refl
-  conditions-done t (suc n) i e =
-      ⊎_elim (λ h. absurd (omega arith)) (λ h. conditions-past t (suc n) i h) (stopped (suc n) i (length bs) e)
-
 -- a list asked for, and what follows it
 pub ask-append : (t : Asked) (l r : List Element) → ask_all t (l ++ r) ≡ ask_all (ask_all t l) r
 unfolding ask_all
 ask-append t [] r = refl
 ask-append t (e ∷ l) r = ask-append (ask_of t e) l r
+
+-- nor does an empty element ask for anything, or a condition of two
+empties : (t : Asked) (k : ℕ) → ask_all t (replicate k empty) ≡ t
+unfolding ask_all
+empties t zero = refl
+empties t (suc k) = empties t k
+
+empties_after : (t : Asked) (l : List Condition) (k : ℕ)
+    → ask_all t (concat_map sides (l ++ replicate k (record { operator = 0; left = empty; right = empty })))
+    ≡ ask_all t (concat_map sides l)
+unfolding ask_all concat_map
+empties_after t [] zero = refl
+empties_after t [] (suc k) = empties_after t [] k
+empties_after t (c ∷ l) k = empties_after (ask_of (ask_of t c.left) c.right) l k
+
+-- what a walk goes over asks for what all ask for
+module _ (bs : List ℕ) (t : Asked) (n i : ℕ) where
+  pub elements_asked : ask_all t (map (element_at bs) (element_places bs n i)) ≡ ask_all t (elements_at bs n i)
+  elements_asked =
+      let w = elements_walk bs n i in
+      rw w.1 (sym (ask-append t (map (element_at bs) (element_places bs n i)) (replicate w.0 empty) ∙ empties _ w.0))
+
+  pub conditions_asked : ask_all t (concat_map sides (map (condition_at bs) (condition_places bs n i)))
+      ≡ ask_all t (concat_map sides (conditions_at bs n i))
+  conditions_asked = let w = conditions_walk bs n i in rw w.1 (sym (empties_after t _ w.0))
 
 -- a block's conditions asked for, and then its output list
 pub block_is : (bs : List ℕ) (b : Block) (t y r : Asked)
@@ -196,10 +164,10 @@ module _ (bs : List ℕ) (q : Question) where
       refl)
       (le-or (suc k) (length q.blocks))
 
-  pub blocks-done : (t : Asked) (k : ℕ) → length q.blocks ≡ 5 → ltb k 5 && ltb k q.count ≡ false
-      → ask_all t (others_from bs q k) ≡ t
+  pub blocks-done : (t : Asked) (k : ℕ) → length q.blocks ≡ 5 → min q.count 5 ≤ k → ask_all t (others_from bs q k) ≡ t
   unfolding concat_map ask_all
-  blocks-done t k l e =
-      on (ltb k 5)
-      (λ a. rw (kept-none q.blocks q.count k (ltb-false k q.count (rw a at e))) refl)
-      (λ a. let h = ltb-false k 5 a in rw (kept_past q.blocks q.count k (omega arith)) refl)
+  blocks-done t k l h =
+      ⊎_elim
+      (λ i. rw (kept-none q.blocks q.count k i) refl)
+      (λ i. rw (kept_past q.blocks q.count k (omega arith)) refl)
+      (le-or q.count k)

@@ -6,12 +6,13 @@
 --   asked_by k e        function and column of e, where e is an aggregate of block k; asked_of k es: those of a list
 --   sides c            the two elements of a condition
 use Rattle.std.specs.Prelude.{ℕ, ◌+◌, ◌*◌, ◌&&◌, cond, List, [], ◌∷◌, eqb, ltb, get_or, set, replicate}
+use Rattle.groups.specs.Asking.{no_ask}
 use Rattle.groups.specs.declared.Asked.{Asked}
 use Rattle.model.specs.Lists.{concat_map}
 use Rattle.model.specs.Question.{Element, empty, constant, variable, fixed, aggregate, Condition}
 
 abbrev pub no_asked : Asked
-no_asked = record { functions = replicate 15 255; columns = replicate 15 255; counts = replicate 5 0 }
+no_asked = record { slots = replicate 15 no_ask; counts = replicate 5 0 }
 
 abbrev pub kept_of : Asked → ℕ → ℕ
 kept_of a k = get_or a.counts k 0
@@ -20,8 +21,7 @@ unfoldable pub ask : Asked → (f k c : ℕ) → Asked
 ask a f k c =
     cond (ltb k 5 && ltb (kept_of a k) 3)
     (record {
-      functions = set a.functions (3 * k + kept_of a k) f;
-      columns = set a.columns (3 * k + kept_of a k) c;
+      slots = set a.slots (3 * k + kept_of a k) (record { function = f; column = c });
       counts = set a.counts k (kept_of a k + 1);
     })
     a

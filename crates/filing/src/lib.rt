@@ -19,7 +19,8 @@ use groups::Asked;
 use syntax::Question;
 use value::Value;
 
-// What marks tell of a value: its group, whether it is marked, and the trials told.
+// What marks tell of a value: its group, whether it is marked, and the trials told. (The trials stand beside the flag and
+// not in an `Option`: a value that is marked may have none told, and `Memo` says what is read there.)
 #[derive(Clone, Copy)]
 pub struct Memory {
     pub group: usize,
@@ -32,23 +33,18 @@ pub fn asks_of(s: &[u8], q: Question) -> Asked
     ensures { result ≡ ask_all no_asked (others_in s.now q) }
 {
     let mut y = walk::no_asked();
-    let mut k = 0;
-    let n = q.count;
-    while (k < 5) & (k < n) {
+    for k in 0..q.count.min(5) {
         y = walk::ask_block(s, q.blocks[k], y);
-        k += 1;
     }
     y
 }
 
 // Whether a group of a block is filled.
+#[tactic(auto, unfolding(crate::specs::Files::is_filed))]
 pub fn is_filed(files: &[i64], block: u8, group: usize) -> bool
     ensures { result ≡ is_filed files.now block group }
 {
-    if group >= 256 {
-        return false;
-    }
-    slots::marked(words::read(files, slots::mark_place(block, group)))
+    group < 256 && slots::marked(words::read(files, slots::mark_place(block, group)))
 }
 
 // The first groups of a block made empty, by zeroing their marks, if the words have room for these.
@@ -56,7 +52,7 @@ pub fn empty_file(files: &mut [i64], block: u8, groups: usize)
     ensures { files.new ≡ emptied block groups files.old }
 {
     let at = buffers::FILE_PART * slots::regions_before(block);
-    let n = slots::words_in(groups);
+    let n = 2 * groups.min(256);
     if files.len() < at + n {
         return;
     }
@@ -66,14 +62,14 @@ pub fn empty_file(files: &mut [i64], block: u8, groups: usize)
 // A group of a block filled: what its slots ask for, of a set of count rows in the words, and the mark.
 pub fn file_group(
     files: &mut [i64],
-    a: Asked,
+    a: &Asked,
     block: u8,
     group: usize,
     sets: &[i64],
     columns: usize,
     count: usize,
 )
-    ensures { files.new ≡ filed a block group columns count sets.now files.old }
+    ensures { files.new ≡ filed a.now block group columns count sets.now files.old }
 {
     if group >= 256 {
         return;
@@ -95,20 +91,21 @@ pub fn recall_mark(marks: &[i64], key: i64) -> Memory
     let group = memo::key_group(key);
     let met = words::read(marks, group);
     Memory {
-        group: group,
-        known: slots::marked(met) & memo::has_key(met, key),
-        trials: memo::less_one(memo::count_in(met)),
+        group,
+        known: slots::marked(met) & (met.den == key),
+        trials: memo::trials_in(met),
     }
 }
 
 // The mark of a value that is met; where the trials that follow it are told and below 62 bits, it tells one more than
 // these.
+#[tactic(auto, unfolding(crate::specs::Memo::met_mark))]
 pub fn met_mark(told: bool, trials: u64, key: i64) -> Value
     ensures { result ≡ met_mark told trials key }
 {
     if told & (trials < 4611686018427387904) {
         return Value {
-            num: (trials + 2) as i64,
+            num: (trials + 2).cast_signed(),
             den: key,
         };
     }

@@ -4,21 +4,17 @@ ghost use Rattle.std.specs.Int.Signed.{le_z};
 ghost use Rattle.groups.specs.Groups.{mark_place, slot_place};
 ghost use Rattle.aggregates.specs.Columns.{aggregate_in};
 ghost use Rattle.words.specs.Words.{words_with};
-ghost use Rattle.filing.specs.Files.{words_in, told, slots_filed};
+ghost use Rattle.filing.specs.Files.{told, slots_filed};
 
-use crate::walk::size;
 use aggregates::Aggregate;
-use groups::Asked;
+use groups::{Ask, Asked, NO_ASK};
 use value::Value;
 
 // How many regions lie before that of a block; block 0 has that of block 1.
 pub(crate) fn regions_before(block: u8) -> usize
     ensures { (result ≡ block - 1) × (result < 256) }
 {
-    if block == 0 {
-        return 0;
-    }
-    size(block) - 1
+    usize::from(block.saturating_sub(1))
 }
 
 // The place of the mark of a block's group.
@@ -35,16 +31,6 @@ pub(crate) fn slot_place(block: u8, group: usize) -> usize
     ensures { (result ≡ slot_place block group 0) × (result < 1000000) }
 {
     buffers::FILE_PLACES * regions_before(block) + 256 + 3 * group
-}
-
-// The words of the marks of a number of groups, 256 at most.
-pub(crate) fn words_in(groups: usize) -> usize
-    ensures { (result ≡ words_in groups) × (result ≤ 512) }
-{
-    if groups < 256 {
-        return 2 * groups;
-    }
-    512
 }
 
 // Whether a mark tells that its group is filled.
@@ -66,29 +52,33 @@ pub(crate) fn told_by(g: Aggregate) -> Value
     }
 }
 
-// The function of a column, of a set of count rows of n columns in the words, put at a place of the files.
+// What is asked for, of a set of count rows of n columns in the words, put at a place of the files.
 pub(crate) fn put_slot(
     files: &mut [i64],
     place: usize,
-    function: u8,
-    column: u8,
+    ask: Ask,
     sets: &[i64],
     n: usize,
     count: usize,
 )
     ensures { files.new ≡ words_with files.old place
-        (told (aggregate_in function column n count sets.now)) }
+        (told (aggregate_in ask.function ask.column n count sets.now)) }
 {
-    let v = told_by(aggregates::aggregate_of(sets, n, count, function, size(column)));
+    let v = told_by(aggregates::aggregate_of(
+        sets,
+        n,
+        count,
+        ask.function,
+        usize::from(ask.column),
+    ));
     words::write(files, place, v);
 }
 
 // What the slots of a block ask for, of a set of count rows of n columns in the words, put into the slots of a group; a
-// block past the fifth asks for nothing. What is asked for is handed over once for the three slots, and read in place:
-// a copy for each slot would take longer than filling it.
+// block past the fifth asks for nothing.
 pub(crate) fn file_slots(
     files: &mut [i64],
-    a: Asked,
+    a: &Asked,
     block: u8,
     group: usize,
     sets: &[i64],
@@ -96,27 +86,17 @@ pub(crate) fn file_slots(
     count: usize,
 )
     requires { group < 256 }
-    ensures { files.new ≡ slots_filed a block group n count sets.now files.old }
+    ensures { files.new ≡ slots_filed a.now block group n count sets.now files.old }
 {
-    let k = size(block);
-    if k >= 5 {
-        return;
-    }
     let at = slot_place(block, group);
-    let mut i: usize = 0;
-    while i < 3 {
-        let function = a.functions[3 * k + i];
-        if function != 255 {
-            put_slot(
-                files,
-                at + i,
-                function,
-                a.columns[3 * k + i],
-                sets,
-                n,
-                count,
-            );
+    for i in 0..3 {
+        let ask = a
+            .slots
+            .get(3 * usize::from(block) + i)
+            .copied()
+            .unwrap_or(NO_ASK);
+        if ask.function != 255 {
+            put_slot(files, at + i, ask, sets, n, count);
         }
-        i += 1;
     }
 }

@@ -6,51 +6,36 @@ ghost use Rattle.model.specs.Question.{other_elements};
 ghost use Rattle.syntax.specs.Described.{element_at, elements_at, conditions_at, described};
 ghost use Rattle.filing.specs.Asks.{no_asked, ask, ask_of, ask_all, sides};
 
-use groups::Asked;
-use syntax::{Block, byte_at, condition_end};
-
-// A byte as an index.
-pub(crate) fn size(x: u8) -> usize
-    ensures { (result ≡ x) × (result < 256) }
-{
-    x as usize
-}
+use groups::{Ask, Asked, NO_ASK};
+use syntax::{Block, byte_at, each_condition, each_element};
 
 // Nothing asked for.
 pub(crate) fn no_asked() -> Asked
     ensures { result ≡ no_asked }
 {
     Asked {
-        functions: [255u8; 15],
-        columns: [255u8; 15],
-        counts: [0u8; 5],
+        slots: [NO_ASK; 15],
+        counts: [0; 5],
     }
 }
 
 // A function of a column of a block in the next of its three slots.
+#[tactic(auto, unfolding(crate::specs::Asks::ask))]
 pub(crate) fn asked(a: Asked, function: u8, block: u8, column: u8) -> Asked
     ensures { result ≡ ask a function block column }
 {
-    let k = size(block);
+    let k = usize::from(block);
     if k >= 5 {
         return a;
     }
-    let mut counts = a.counts;
-    let n = counts[k];
+    let n = a.counts[k];
     if n >= 3 {
         return a;
     }
-    let at = 3 * k + size(n);
-    let mut functions = a.functions;
-    let mut columns = a.columns;
-    functions[at] = function;
-    columns[at] = column;
-    counts[k] = n + 1;
-    Asked {
-        functions: functions,
-        columns: columns,
-        counts: counts,
-    }
+    let mut y = a;
+    y.slots[3 * k + usize::from(n)] = Ask { function, column };
+    y.counts[k] = n + 1;
+    y
 }
 
 // The element at a place asked for: an aggregate where its kind is past 3, with function, block and column in its next
@@ -71,31 +56,25 @@ pub(crate) fn ask_at(s: &[u8], at: usize, a: Asked) -> Asked
 }
 
 // n elements from a place on asked for.
+#[tactic(auto, unfolding(crate::specs::Asks::ask_all))]
 pub(crate) fn ask_elements(s: &[u8], at: usize, n: usize, a: Asked) -> Asked
     ensures { result ≡ ask_all a (elements_at s.now n at) }
 {
     let mut y = a;
-    let mut i = at;
-    let mut more = n;
-    while (more > 0) & (i < s.len()) {
+    for i in each_element(s, at, n) {
         y = ask_at(s, i, y);
-        i += 9;
-        more -= 1;
     }
     y
 }
 
 // The two elements of n conditions from a place on asked for.
+#[tactic(auto, unfolding(crate::specs::Asks::ask_all, model::specs::Lists::concat_map, syntax::specs::Described::condition_at))]
 pub(crate) fn ask_conditions(s: &[u8], at: usize, n: usize, a: Asked) -> Asked
     ensures { result ≡ ask_all a (concat_map sides (conditions_at s.now n at)) }
 {
     let mut y = a;
-    let mut i = at;
-    let mut more = n;
-    while (more > 0) & (i < s.len()) {
+    for i in each_condition(s, at, n) {
         y = ask_at(s, i + 12, ask_at(s, i + 3, y));
-        i = condition_end(s, i);
-        more -= 1;
     }
     y
 }

@@ -10,11 +10,23 @@ ghost use Rattle.groups.specs.Groups.{slot_place, aggregate_at};
 
 use value::Value;
 
-// The aggregates that name each of the five blocks: function and column, three slots for a block, 255 where none is.
+// An aggregate of a block: a function of a column, both 255 where there is none.
+#[derive(Clone, Copy)]
+pub struct Ask {
+    pub function: u8,
+    pub column: u8,
+}
+
+// What asks for nothing.
+pub const NO_ASK: Ask = Ask {
+    function: 255,
+    column: 255,
+};
+
+// The aggregates that name each of the five blocks: three slots for a block, and how many of them are kept.
 #[derive(Clone, Copy)]
 pub struct Asked {
-    pub functions: [u8; 15],
-    pub columns: [u8; 15],
+    pub slots: [Ask; 15],
     pub counts: [u8; 5],
 }
 
@@ -28,8 +40,8 @@ pub struct Groups {
 fn asks_at(a: &Asked, j: usize, function: u8, column: u8) -> bool
     ensures { result ≡ asks_at a.now j function column }
 {
-    (a.functions.get(j).copied().unwrap_or(255) == function)
-        & (a.columns.get(j).copied().unwrap_or(255) == column)
+    let slot = a.slots.get(j).copied().unwrap_or(NO_ASK);
+    (slot.function == function) & (slot.column == column)
 }
 
 // Which of a block's three slots asks for the function of the column; 3 where none does.

@@ -8,7 +8,4 @@ use Rattle.filing.proofs.Walks.{others_from}
 use Rattle.filing.proofs.asks_of.Given as goal
 
 abbrev pub invariant-loop-k : goal.invariant-loop-k
-invariant-loop-k l = (l.n ≡ l.q.count) × (ask_all l.y (others_from l.s l.q l.k) ≡ ask_all no_asked (others_in l.s l.q))
-
-abbrev pub decreases-loop-k : goal.decreases-loop-k
-decreases-loop-k l = l.n - l.k
+invariant-loop-k l = ask_all l.y (others_from l.s l.q l.k) ≡ ask_all no_asked (others_in l.s l.q)

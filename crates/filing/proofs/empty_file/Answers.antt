@@ -8,12 +8,11 @@ pub returns-then-files-at : goal.returns-then-files-at
 returns-then-files-at c =
     let given = c.args in
     sym (emptied_short given.block given.groups given.files.now
-    (omega (arith, c.regions_before-at.ensures.0, c.words_in-n.ensures.0, c.if-files-at.true)))
+    (omega (arith, c.regions_before-at.ensures.0, c.min-n.ensures, c.if-files-at.true)))
 
 pub returns : goal.returns
 returns c =
     let given = c.args in
-    let words = c.words_in-n in
-    empty_done given.block given.groups c.regions_before-at.result words.result given.files.now
-    c.zero.new.words c.regions_before-at.ensures.0 words.ensures.0
+    empty_done given.block given.groups c.regions_before-at.result _ given.files.now
+    c.zero.new.words c.regions_before-at.ensures.0 (omega (arith, c.min-n.ensures))
     (omega (arith, c.if-files-at.false)) c.zero.ensures.words_after

@@ -7,12 +7,12 @@ use Rattle.filing.proofs.file_group.Goals as goal
 pub returns-then-group-ge256 : goal.returns-then-group-ge256
 returns-then-group-ge256 c =
     let given = c.args in
-    sym (group-past given.a given.block given.group given.columns given.count given.sets.now
+    sym (group-past given.a.now given.block given.group given.columns given.count given.sets.now
     given.files.now (omega arith))
 
 pub returns : goal.returns
 returns c =
     let given = c.args in
-    group-put given.a given.block given.group given.columns given.count given.sets.now
+    group-put given.a.now given.block given.group given.columns given.count given.sets.now
     given.files.now c.file_slots.new.files c.write.new.words c.mark_place.result (omega arith)
     c.file_slots.ensures c.mark_place.ensures c.write.ensures.words_after

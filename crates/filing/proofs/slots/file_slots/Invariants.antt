@@ -7,7 +7,4 @@ use Rattle.filing.proofs.slots.file_slots.Given as goal
 
 abbrev pub invariant-loop-i : goal.invariant-loop-i
 invariant-loop-i l =
-    (l.i ≤ 3) × (l.files ≡ slots_to l.a l.block l.group l.n l.count l.sets l.initial.files l.i)
-
-abbrev pub decreases-loop-i : goal.decreases-loop-i
-decreases-loop-i l = 3 - l.i
+    l.files ≡ slots_to l.a l.block l.group l.n l.count l.sets l.initial.files l.i

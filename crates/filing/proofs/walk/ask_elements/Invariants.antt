@@ -1,12 +1,15 @@
--- `filing::walk::ask_elements` meets its contract. The loop's invariant: the elements left, after those passed, give
--- the whole. Where the bytes end the elements left are empty.
+-- What is left, asked for after what is passed, gives the whole.
+use Prim.Native.Nat.{◌<◌}
+use lib.ListN.{length}
+use mathlib.Core.List.{map}
 use mathlib.Core.Path.{◌≡◌}
-use Rattle.syntax.specs.Described.{elements_at}
-use Rattle.filing.specs.Asks.{ask_all}
+use Rattle.model.specs.Lists.{All, concat_map}
+use Rattle.syntax.specs.Described.{element_at, elements_at, condition_at, conditions_at}
+use Rattle.syntax.specs.Walks.{to_come}
+use Rattle.filing.specs.Asks.{ask_all, sides}
 use Rattle.filing.proofs.walk.ask_elements.Given as goal
 
-abbrev pub invariant-loop-more : goal.invariant-loop-more
-invariant-loop-more l = ask_all l.y (elements_at l.s l.more l.i) ≡ ask_all l.initial.y (elements_at l.s l.n l.at)
-
-abbrev pub decreases-loop-more : goal.decreases-loop-more
-decreases-loop-more l = l.more
+abbrev pub invariant-loop-i : goal.invariant-loop-i
+invariant-loop-i l =
+    All (λ j. j < length l.s) (to_come l.i-iterator)
+    × (ask_all l.y (map (element_at l.s) (to_come l.i-iterator)) ≡ ask_all l.initial.y (elements_at l.s l.n l.at))
