@@ -4,7 +4,10 @@ use Prim.Native.Nat.{ℕ, zero, suc, ◌+◌, ◌-◌, ◌%◌, ◌≤◌, zero-
 use native.Mathlib.Omega.{arith}
 use mathlib.Core.Bool.{Bool, true, false, ◌&&◌, cond}
 use mathlib.Core.List.{List, [], ◌∷◌}
-use mathlib.Core.Option.{Option, none, some}
+use mathlib.Core.Option as maybe
+use mathlib.Core.Option.{none, some}
+use Rattle.std.specs.Prelude.{Option, Some, None}
+use Rattle.std.specs.Option.{option_and_then}
 use mathlib.Core.Path.{◌≡◌, refl, sym, ◌∙◌, ap, ap₂, subst}
 use borrow.Author.Tests.{leb-true, leb-false, le-leb, lt-leb, ne_eqb}
 use lib.Dec.{T, eqb, leb, eqb-suc-suc}
@@ -13,9 +16,10 @@ use lib.Seq.{drop-drop, get_or-drop, length-take-le}
 use Rattle.model.specs.Format.{Parser, after, ◌>>=◌, give, only, number64}
 use Rattle.model.specs.Listing.{DA, QU, PN, Job, contents, part_of, parts, job_of}
 use Rattle.model.specs.Records.{Mark, marked, ends}
-use Rattle.job.specs.Places.{four, stands, no_part, part_at, whole, no_parts, joined, parts_of, job_in}
+use Rattle.job.specs.Places.{four, stands, part_at, joined, laid, with_plan, with_question, parts_of, job_in}
 use Rattle.job.specs.declared.Part.{Part}
-use Rattle.job.proofs.PlaceLaws.{stands-long, part-there, part-absent}
+use Rattle.job.specs.declared.Parts.{Parts}
+use Rattle.job.proofs.PlaceLaws.{stands-long, part-there}
 use Rattle.job.proofs.WordLaws.{four-drop, four_front}
 
 and-false : (a : Bool) → (a && false) ≡ false
@@ -23,11 +27,12 @@ and-false true = refl
 and-false false = refl
 
 -- ---- one part
-abbrev pub told : List ℕ → Part → Option (List ℕ × List ℕ)
-told bs p = cond p.ok (some (take p.size (drop p.at bs), drop (p.at + p.size) bs)) none
+abbrev pub told : List ℕ → Option Part → maybe.Option (List ℕ × List ℕ)
+told bs None = none
+told bs (Some p) = some (take p.size (drop p.at bs), drop (p.at + p.size) bs)
 
 told-there : (bs : List ℕ) (t : Bool) (i n : ℕ)
-    → told bs (cond t (record { ok = true; at = i; size = n }) no_part)
+    → told bs (cond t (Some (record { at = i; size = n })) None)
     ≡ cond t (some (take n (drop i bs), drop (i + n) bs)) none
 told-there bs true i n = refl
 told-there bs false i n = refl
@@ -40,7 +45,7 @@ marked_is m [] e = absurd (subst T (sym e) tt)
 marked_is m (a ∷ []) e = absurd (subst T (sym e) tt)
 marked_is m (a ∷ b ∷ cs) e = refl
 
-both_tests : {A : Type 0} (e l f : Bool) (s : Option A)
+both_tests : {A : Type 0} (e l f : Bool) (s : maybe.Option A)
     → cond (e && true) (cond (l && f) s none) none ≡ cond (e && l && f) s none
 both_tests true true f s = refl
 both_tests true false f s = refl
@@ -112,37 +117,15 @@ module _ (bs : List ℕ) (m : Mark) (i : ℕ) where
           (sym (rw (and-false (eqb (get_or bs i 0) x && eqb (get_or bs (i + 1) 0) y && leb n 65536)) refl))
 
   -- a part ends within the bytes
-  pub part-within : i ≤ length bs → (part_at bs i x y).at + (part_at bs i x y).size ≤ length bs
-  part-within h = go (stands bs i x y) refl
-    where
-      go : (t : Bool) → stands bs i x y ≡ t → (part_at bs i x y).at + (part_at bs i x y).size ≤ length bs
-      go true e =
-          let l = stands-long bs i x y e in
-          subst (λ (p : Part). p.at + p.size ≤ length bs) (sym (part-there bs i x y e))
-          (let g : i + 6 + n ≤ length bs = omega arith in g)
-      go false e =
-          subst (λ (p : Part). p.at + p.size ≤ length bs) (sym (part-absent bs i x y e)) zero-le
+  pub part-within : i ≤ length bs → (p : Part) → part_at bs i x y ≡ Some p → p.at + p.size ≤ length bs
+  part-within h p e = grind (arith, part-there bs i x y p e, stands-long bs i x y)
 
 -- ---- the three parts
-after-told : {B : Type 0} (bs : List ℕ) (p : Part) (f : List ℕ → Parser B)
-    → after (told bs p) f ≡ cond p.ok (f (take p.size (drop p.at bs)) (drop (p.at + p.size) bs)) none
-unfolding after
-after-told bs p f = go p.ok refl
-  where
-    go : (t : Bool) → p.ok ≡ t → after (told bs p) f
-        ≡ cond p.ok (f (take p.size (drop p.at bs)) (drop (p.at + p.size) bs)) none
-    go true e = rw e refl
-    go false e = rw e refl
-
 -- a parser after a part
 after_part : {B : Type 0} (bs : List ℕ) (m : Mark) (i : ℕ) (f : List ℕ → Parser B)
-    → ◌>>=◌ (part_of m) f (drop i bs)
-    ≡ cond (part_at bs i m.first m.second).ok
-    (f (take (part_at bs i m.first m.second).size (drop (part_at bs i m.first m.second).at bs))
-    (drop ((part_at bs i m.first m.second).at + (part_at bs i m.first m.second).size) bs)) none
+    → ◌>>=◌ (part_of m) f (drop i bs) ≡ after (told bs (part_at bs i m.first m.second)) f
 unfolding ◌>>=◌
-after_part bs m i f =
-    ap (λ o. after o f) (part-told bs m i) ∙ after-told bs (part_at bs i m.first m.second) f
+after_part bs m i f = ap (λ o. after o f) (part-told bs m i)
 
 after_only : {A B : Type 0} (t : Bool) (a : A) (cs : List ℕ) (f : A → Parser B)
     → after (only t a cs) f ≡ cond t (f a cs) none
@@ -157,32 +140,9 @@ ends_is [] (suc e) h = absurd (omega arith)
 ends_is (b ∷ bs) zero h = sym (ne_eqb 0 (suc (length bs)) (λ e. omega arith))
 ends_is (b ∷ bs) (suc e) h = ends_is bs e (omega arith) ∙ sym (eqb-suc-suc e (length bs))
 
-abbrev ended : Option (Job × List ℕ) → Option Job
+abbrev ended : maybe.Option (Job × List ℕ) → maybe.Option Job
 ended none = none
 ended (some j) = elim (ends j.1) [ true ↦ some j.0 | false ↦ none ]
-
-all_tests : (a w b c : Bool) (j : Job) (l : List ℕ)
-    → ended (cond a (cond w (cond b (cond c (some (j, l)) none) none) none) none)
-    ≡ cond (a && b && c && w && ends l) (some j) none
-all_tests false w b c j l = refl
-all_tests true false false c j l = refl
-all_tests true false true false j l = refl
-all_tests true false true true j l = refl
-all_tests true true false c j l = refl
-all_tests true true true false j l = refl
-all_tests true true true true j l = go (ends l) refl
-  where
-    go : (t : Bool) → ends l ≡ t → ended (some (j, l)) ≡ cond (ends l) (some j) none
-    go true e = rw (ended, e) refl
-    go false e = rw (ended, e) refl
-
-is_some : {A : Type 0} → Option A → Bool
-is_some none = false
-is_some (some a) = true
-
-some-none : {A : Type 0} {a : A} → some a ≡ none → ⊥
-unfolding is_some
-some-none e = subst T (ap is_some e) tt
 
 -- the parsers after the data and after the question
 planned : List ℕ → List ℕ → Parser Job
@@ -192,94 +152,80 @@ asked : List ℕ → Parser Job
 asked a = ◌>>=◌ (part_of QU) (λ b. planned a b)
 
 module _ (bs : List ℕ) where
-  abbrev d : Part
-  d = part_at bs 0 68 65
+  abbrev contents_of : Part → List ℕ
+  contents_of p = take p.size (drop p.at bs)
 
-  abbrev q : Part
-  q = part_at bs (d.at + d.size) 81 85
+  abbrev job : Part → Part → Part → Job
+  job d q p = record { «data» = contents_of d; question = contents_of q; plan = contents_of p }
 
-  abbrev p : Part
-  p = part_at bs (q.at + q.size) 80 78
-
-  abbrev data_in : List ℕ
-  data_in = take d.size (drop d.at bs)
-
-  abbrev question_in : List ℕ
-  question_in = take q.size (drop q.at bs)
-
-  abbrev plan_in : List ℕ
-  plan_in = take p.size (drop p.at bs)
-
-  abbrev job : Job
-  job = record { «data» = data_in; question = question_in; plan = plan_in }
-
-  abbrev rest : List ℕ
-  rest = drop (p.at + p.size) bs
-
-  data-within : d.at + d.size ≤ length bs
-  data-within = part-within bs DA 0 zero-le
-
-  question-within : q.at + q.size ≤ length bs
-  question-within = part-within bs QU (d.at + d.size) data-within
-
-  plan-within : p.at + p.size ≤ length bs
-  plan-within = part-within bs PN (q.at + q.size) question-within
-
-  plan-read : planned data_in question_in (drop (q.at + q.size) bs) ≡ cond p.ok (some (job, rest)) none
-  unfolding planned give
-  plan-read =
-      after_part bs PN (q.at + q.size) (λ c. give (record { «data» = data_in; question = question_in; plan = c }))
-
-  question_read : asked data_in (drop (d.at + d.size) bs)
-      ≡ cond q.ok (cond p.ok (some (job, rest)) none) none
-  unfolding asked
-  question_read =
-      after_part bs QU (d.at + d.size) (λ b. planned data_in b) ∙ ap (λ o. cond q.ok o none) plan-read
-
-  words-whole : eqb (length data_in % 4) 0 ≡ eqb (d.size % 4) 0
-  words-whole =
+  words-whole : (d : Part) → d.at + d.size ≤ length bs → eqb (length (contents_of d) % 4) 0 ≡ eqb (d.size % 4) 0
+  words-whole d h =
       ap (λ k. eqb (k % 4) 0)
-      (length-take-le d.size (drop d.at bs)
-      (let a = length-drop d.at bs in let b = data-within in omega arith))
-
-  parts_is : parts bs
-      ≡ cond d.ok (cond (eqb (d.size % 4) 0) (cond q.ok (cond p.ok (some (job, rest)) none) none) none) none
-  unfolding parts ◌>>=◌ asked planned
-  parts_is =
-      after_part bs DA 0 (λ a. ◌>>=◌ (only (eqb (length a % 4) 0) a) asked)
-      ∙ ap (λ o. cond d.ok o none)
-      (after_only (eqb (length data_in % 4) 0) data_in (drop (d.at + d.size) bs) asked
-      ∙ ap₂ (λ (t : Bool) o. cond t o none) words-whole question_read)
+      (length-take-le d.size (drop d.at bs) (let a = length-drop d.at bs in omega arith))
 
   job-ended : job_of bs ≡ ended (parts bs)
   unfolding job_of
   job-ended = go (parts bs) refl
     where
-      go : (o : Option (Job × List ℕ)) → parts bs ≡ o → job_of bs ≡ ended (parts bs)
+      go : (o : maybe.Option (Job × List ℕ)) → parts bs ≡ o → job_of bs ≡ ended (parts bs)
       go none e = rw (e, job_of) refl
       go (some j) e = rw (e, job_of) refl
 
-  job_is : job_of bs ≡ cond (whole d q p (length bs)) (some job) none
-  job_is =
-      job-ended ∙ ap ended parts_is ∙ all_tests d.ok (eqb (d.size % 4) 0) q.ok p.ok job rest
-      ∙ ap (λ t. cond (d.ok && q.ok && p.ok && eqb (d.size % 4) 0 && t) (some job) none)
-      (ends_is bs (p.at + p.size) plan-within)
+  -- where the plan stands, or does not
+  plan-told : (d q : Part) (o : Option Part) → ((p : Part) → o ≡ Some p → p.at + p.size ≤ length bs)
+      → (t : Bool) → t ≡ eqb (d.size % 4) 0
+      → ended (cond t (after (told bs o) (λ c. give (record { «data» = contents_of d; question = contents_of q; plan = c }))) none)
+      ≡ job_in bs (option_and_then (λ p. joined d q p (length bs)) o)
+  unfolding after give job_in
+  plan-told d q None within true e = refl
+  plan-told d q None within false e = refl
+  plan-told d q (Some p) within false e = rw (← e) refl
+  plan-told d q (Some p) within true e =
+      rw (← e, ← ends_is bs (p.at + p.size) (within p refl)) (go (ends (drop (p.at + p.size) bs)) refl)
+    where
+      go : (t : Bool) → ends (drop (p.at + p.size) bs) ≡ t
+          → ended (some (job d q p, drop (p.at + p.size) bs))
+          ≡ job_in bs (cond (ends (drop (p.at + p.size) bs)) (Some (laid d q p)) None)
+      go true f = rw (ended, f) refl
+      go false f = rw (ended, f) refl
+
+  question-told : (d : Part) (o : Option Part) → ((q : Part) → o ≡ Some q → q.at + q.size ≤ length bs)
+      → (t : Bool) → t ≡ eqb (d.size % 4) 0
+      → ended (cond t (after (told bs o) (planned (contents_of d))) none)
+      ≡ job_in bs (option_and_then (with_plan bs d) o)
+  unfolding after job_in planned
+  question-told d None within true e = refl
+  question-told d None within false e = refl
+  question-told d (Some q) within t e =
+      ap (λ o. ended (cond t o none))
+      (after_part bs PN (q.at + q.size) (λ c. give (record { «data» = contents_of d; question = contents_of q; plan = c })))
+      ∙ plan-told d q (part_at bs (q.at + q.size) 80 78) (λ p. part-within bs PN (q.at + q.size) (within q refl) p) t e
+
+  data-told : (o : Option Part) → ((d : Part) → o ≡ Some d → d.at + d.size ≤ length bs)
+      → ended (after (told bs o) (λ a. ◌>>=◌ (only (eqb (length a % 4) 0) a) asked))
+      ≡ job_in bs (option_and_then (with_question bs) o)
+  unfolding after job_in ◌>>=◌ asked
+  data-told None within = refl
+  data-told (Some d) within =
+      ap ended (after_only (eqb (length (contents_of d) % 4) 0) (contents_of d) (drop (d.at + d.size) bs) asked
+      ∙ ap (λ o. cond (eqb (length (contents_of d) % 4) 0) o none)
+      (after_part bs QU (d.at + d.size) (λ b. planned (contents_of d) b)))
+      ∙ question-told d (part_at bs (d.at + d.size) 81 85)
+      (λ q. part-within bs QU (d.at + d.size) (within d refl) q)
+      (eqb (length (contents_of d) % 4) 0) (words-whole d (within d refl))
 
   -- the job is the one that the parts tell of
   pub job-told : job_of bs ≡ job_in bs (parts_of bs)
-  unfolding parts_of joined job_in
-  job-told = job_is ∙ go (whole d q p (length bs)) refl
-    where
-      go : (t : Bool) → whole d q p (length bs) ≡ t
-          → cond (whole d q p (length bs)) (some job) none ≡ job_in bs (parts_of bs)
-      go true e = rw (e, joined) refl
-      go false e = rw (e, joined) refl
+  unfolding parts_of parts asked planned
+  job-told =
+      job-ended ∙ ap ended (after_part bs DA 0 (λ a. ◌>>=◌ (only (eqb (length a % 4) 0) a) asked))
+      ∙ data-told (part_at bs 0 68 65) (λ d. part-within bs DA 0 zero-le d)
 
   -- and where the bytes are no job, there are none
-  pub parts_none : job_of bs ≡ none → parts_of bs ≡ no_parts
-  unfolding parts_of joined
-  parts_none h = go (whole d q p (length bs)) refl
+  pub parts_none : job_of bs ≡ none → parts_of bs ≡ None
+  unfolding job_in
+  parts_none h = go (parts_of bs) (sym job-told ∙ h)
     where
-      go : (t : Bool) → whole d q p (length bs) ≡ t → parts_of bs ≡ no_parts
-      go true e = absurd (some-none (sym (ap (λ t. cond t (some job) none) e) ∙ sym job_is ∙ h))
-      go false e = rw (e, joined) refl
+      go : (o : Option Parts) → job_in bs o ≡ none → o ≡ None
+      go None e = refl
+      go (Some p) e = cc

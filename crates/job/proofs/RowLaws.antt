@@ -1,13 +1,13 @@
 -- Numbers, values, fields, lines and rows as the code prints them, and how many rows the words hold.
-use Prim.Native.Nat.{ℕ, zero, suc, ◌+◌, ◌*◌, ◌-◌, ◌/◌, ◌<◌, ◌≤◌, min}
-use native.Mathlib.Nat.{le_trans, mul-le-mul_right, suc-mul, div-mul-le_self}
+use Prim.Native.Nat.{ℕ, zero, suc, ◌+◌, ◌*◌, ◌-◌, ◌/◌, ◌≤◌, min}
+use native.Mathlib.Nat.{le_trans, mul-le-mul_right, div-mul-le_self}
 use native.Mathlib.Numerals.{add-one}
 use native.Mathlib.Omega.{arith}
-use mathlib.Core.Bool.{Bool, true, false, ◌&&◌}
+use mathlib.Core.Bool.{Bool, true, false}
 use mathlib.Core.List.{List, [], ◌∷◌, ◌++◌}
 use mathlib.Core.Path.{◌≡◌, refl, sym, ◌∙◌, ap, subst}
-use borrow.Author.Tests.{eq-eqb, ne_eqb, eqb-true, eqb-false, ltb-false}
-use lib.Dec.{eqb, ltb}
+use borrow.Author.Tests.{eq-eqb, ne_eqb, eqb-true, eqb-false}
+use lib.Dec.{eqb}
 use lib.IntN.{ℤ, pos, nat_abs}
 use lib.ListN.{length, get_or}
 use lib.Seq.{append_snoc}
@@ -15,7 +15,7 @@ use Rattle.model.specs.Listing.{digits, integer_text, no_line}
 use Rattle.job.specs.Texts.{Wrote, is_zero, is_one, ratio_text, gap_text, field_text, fields_text, line_text, lines_text}
 use Rattle.job.specs.Texts.{ok_text}
 use Rattle.job.specs.Texts.{shown_rows}
-use Rattle.job.proofs.WroteLaws.{wrote_as, wrote_then, wrote-more, wrote-length}
+use Rattle.job.proofs.WroteLaws.{wrote_as, wrote_then, wrote-more}
 
 -- ---- numbers and values
 module _ {at r : ℕ} {l m : List ℕ} (x : ℤ) (n : ℕ) (e : n ≡ nat_abs x) where
@@ -34,24 +34,18 @@ pub ratio-absent : {at r : ℕ} {l m : List ℕ} (n d : ℤ) → is_zero d ≡ t
 unfolding ratio_text
 ratio-absent n d e w = rw e w
 
-module _ {at r : ℕ} {l m : List ℕ} (n d : ℤ) (some : is_zero d ≡ false) (t : Bool) (is : t ≡ is_one d)
-    (w : Wrote at (integer_text n) l m r) where
-  ratio-whole-text : is_one d ≡ true → ratio_text n d ≡ integer_text n
+module _ {at r : ℕ} {l m : List ℕ} (n d : ℤ) (some : is_zero d ≡ false) (w : Wrote at (integer_text n) l m r) where
+  pub ratio-whole : is_one d ≡ true → Wrote at (ratio_text n d) l m r
   unfolding ratio_text
-  ratio-whole-text e = rw (some, e) refl
+  ratio-whole e = rw (some, e) w
 
-  ratio-over-text : is_one d ≡ false → ratio_text n d ≡ integer_text n ++ (47 ∷ integer_text d)
-  unfolding ratio_text
-  ratio-over-text e = rw (some, e) refl
-
-  pub ratio-whole : t ≡ true → Wrote at (ratio_text n d) l m r
-  ratio-whole e = wrote_as w (ratio_text n d) (sym (ratio-whole-text (sym is ∙ e)))
-
-  pub ratio-over : {k j : List ℕ} {q s : ℕ} → t ≡ false → Wrote r (47 ∷ []) m k q → Wrote q (integer_text d) k j s
+  pub ratio-over : {k j : List ℕ} {q s : ℕ} → is_one d ≡ false → Wrote r (47 ∷ []) m k q → Wrote q (integer_text d) k j s
       → Wrote at (ratio_text n d) l j s
+  unfolding ratio_text
   ratio-over e v u =
-      wrote_as (wrote_then (wrote_then w v) u) (ratio_text n d)
-      (append_snoc (integer_text n) 47 (integer_text d) ∙ sym (ratio-over-text (sym is ∙ e)))
+      rw (some, e)
+      (wrote_as (wrote_then (wrote_then w v) u) (integer_text n ++ (47 ∷ integer_text d))
+      (append_snoc (integer_text n) 47 (integer_text d)))
 
 pub field_is : {at r : ℕ} {l m : List ℕ} (ws : List ℤ) (p : ℕ)
     → Wrote at (ratio_text (get_or ws (2 * p) (pos 0)) (get_or ws (2 * p + 1) (pos 0))) l m r
@@ -100,19 +94,11 @@ pub lines_none : {at : ℕ} {l : List ℕ} (ws : List ℤ) (c : ℕ) → Wrote a
 unfolding lines_text
 lines_none ws c w = w
 
--- a row that is shown lies within the words
-pub row_room : (r n c p w : ℕ) → r < n → n * c ≤ w → p ≡ r * c → p + c ≤ w
-row_room r n c p w h k e =
-    let m = mul-le-mul_right c h in let s = suc-mul r c in omega arith
-
-pub next_row : (r c p : ℕ) → p ≡ r * c → p + c ≡ (r + 1) * c
-next_row r c p e = rw (add-one r) (let s = suc-mul r c in omega arith)
-
 module _ {at q : ℕ} {l m : List ℕ} (ws : List ℤ) (c r : ℕ) (w : Wrote at (lines_text ws c r) l m q) where
-  pub lines_more : {k : List ℕ} {s : ℕ} (p : ℕ) → p ≡ r * c → Wrote q (line_text ws p c) m k s
+  pub lines_more : {k : List ℕ} {s : ℕ} → Wrote q (line_text ws (r * c) c) m k s
       → Wrote at (lines_text ws c (r + 1)) l k s
   unfolding lines_text
-  lines_more {k} {s} p e v = rw (add-one r) (wrote_then w (subst (λ z. Wrote q (line_text ws z c) m k s) e v))
+  lines_more v = rw (add-one r) (wrote_then w v)
 
   -- no more room: the rows that are left change nothing
   lines-full : (d : ℕ) → length l ≤ q → Wrote at (lines_text ws c (d + r)) l m q
@@ -122,17 +108,10 @@ module _ {at q : ℕ} {l m : List ℕ} (ws : List ℤ) (c r : ℕ) (w : Wrote at
       subst (λ z. Wrote at (lines_text ws c z) l m q) (let e : suc (d + r) ≡ suc d + r = omega arith in e)
       (wrote-more (lines-full d h) (line_text ws ((d + r) * c) c) h)
 
-  pub lines_end : (n : ℕ) → r ≤ n → (ltb r n && ltb q (length m)) ≡ false → Wrote at (lines_text ws c n) l m q
-  lines_end n h e = go (ltb r n) refl e
-    where
-      go : (t : Bool) → ltb r n ≡ t → (t && ltb q (length m)) ≡ false → Wrote at (lines_text ws c n) l m q
-      go true f g =
-          let b = ltb-false q (length m) g in let k = wrote-length w in
-          let d : n - r + r ≡ n = omega arith in
-          subst (λ z. Wrote at (lines_text ws c z) l m q) d (lines-full (n - r) (omega arith))
-      go false f g =
-          let b = ltb-false r n f in
-          subst (λ z. Wrote at (lines_text ws c z) l m q) (let d : r ≡ n = omega arith in d) w
+  pub lines_end : (n : ℕ) → r ≤ n → length l ≤ q → Wrote at (lines_text ws c n) l m q
+  lines_end n h full =
+      let d : n - r + r ≡ n = omega arith in
+      subst (λ z. Wrote at (lines_text ws c z) l m q) d (lines-full (n - r) full)
 
 -- the rows shown are held by the words
 pub shown-room : (k c w : ℕ) → shown_rows k c w * c ≤ w / 2

@@ -1,8 +1,8 @@
 // Text put into lent bytes at a place, as far as there is room; each function gives the place after it, no further than
 // the end.
-ghost use Rattle.std.specs.Prelude.{[], ◌∷◌, ◌++◌, ◌≡◌, ◌+◌, ◌*◌, ◌/◌, ◌<◌, ◌≤◌, nat_abs, pos, length, get_or};
+ghost use Rattle.std.specs.Prelude.{[], ◌∷◌, ◌++◌, ◌≡◌, ◌+◌, ◌*◌, ◌/◌, ◌<◌, ◌≤◌, length};
 ghost use Rattle.model.specs.Listing.{digits, integer_text, no_line};
-ghost use Rattle.job.specs.Texts.{Wrote, is_zero, is_one, ratio_text, gap_text, field_text, line_text, lines_text};
+ghost use Rattle.job.specs.Texts.{Wrote, ratio_text, gap_text, field_text, line_text, lines_text};
 ghost use Rattle.job.specs.Texts.{ok_text};
 
 // One byte.
@@ -23,10 +23,8 @@ pub(crate) fn letters(out: &mut [u8], at: usize, t: &[u8]) -> usize
     ensures { Wrote at t.now out.old out.new result }
 {
     let mut next = at;
-    let mut i: usize = 0;
-    while i < t.len() {
-        next = byte(out, next, t[i]);
-        i += 1;
+    for b in t {
+        next = byte(out, next, *b);
     }
     next
 }
@@ -35,10 +33,11 @@ fn digit(n: u64) -> u8
     requires { n < 10 }
     ensures { result ≡ 48 + n }
 {
-    48 + (n as u8)
+    b'0' + (n as u8)
 }
 
-// A number without sign, its first digits before its last: at most 20 calls.
+// A number without sign, its first digits before its last: at most 20 calls. The library prints a number into a writer
+// of its own; here the contract names the model's `digits`, as far as there is room in the lent bytes.
 fn number(out: &mut [u8], at: usize, n: u64) -> usize
     requires { at ≤ length out.old }
     ensures { Wrote at (digits n) out.old out.new result }
@@ -50,22 +49,12 @@ fn number(out: &mut [u8], at: usize, n: u64) -> usize
     byte(out, next, digit(n % 10))
 }
 
-// The size of a number.
-fn size(x: i64) -> u64
-    ensures { result ≡ nat_abs x }
-{
-    if x < 0 {
-        return (-1 - x) as u64 + 1;
-    }
-    x as u64
-}
-
 // A number with its sign.
 fn integer(out: &mut [u8], at: usize, x: i64) -> usize
     requires { at ≤ length out.old }
     ensures { Wrote at (integer_text x) out.old out.new result }
 {
-    let n = size(x);
+    let n = x.unsigned_abs();
     if x < 0 {
         let next = byte(out, at, b'-');
         return number(out, next, n);
@@ -73,28 +62,17 @@ fn integer(out: &mut [u8], at: usize, x: i64) -> usize
     number(out, at, n)
 }
 
-fn is_zero(x: i64) -> bool
-    ensures { result ≡ is_zero x }
-{
-    x == 0
-}
-
-fn is_one(x: i64) -> bool
-    ensures { result ≡ is_one x }
-{
-    x == 1
-}
-
 // A value: its numerator alone where the denominator is 1, a minus sign alone where it is absent.
 fn ratio(out: &mut [u8], at: usize, num: i64, den: i64) -> usize
     requires { at ≤ length out.old }
     ensures { Wrote at (ratio_text num den) out.old out.new result }
 {
-    if is_zero(den) {
+    let is_absent = den == 0;
+    if is_absent {
         return byte(out, at, b'-');
     }
     let next = integer(out, at, num);
-    if is_one(den) {
+    if den == 1 {
         return next;
     }
     let last = byte(out, next, b'/');
@@ -112,22 +90,12 @@ fn gap(out: &mut [u8], at: usize, j: usize) -> usize
     byte(out, at, b' ')
 }
 
-// Word i, 0 past the end.
-fn word_at(words: &[i64], i: usize) -> i64
-    ensures { result ≡ get_or words.now i (pos 0) }
-{
-    if i < words.len() {
-        return words[i];
-    }
-    0
-}
-
 // The value at place p of the words.
 fn value(words: &[i64], out: &mut [u8], at: usize, p: usize) -> usize
     requires { (at ≤ length out.old) × (p < length words.now / 2) }
     ensures { Wrote at (field_text words.now p) out.old out.new result }
 {
-    ratio(out, at, word_at(words, 2 * p), word_at(words, 2 * p + 1))
+    ratio(out, at, words[2 * p], words[2 * p + 1])
 }
 
 // Field j of the row that begins at place p.
@@ -145,10 +113,8 @@ fn line(words: &[i64], out: &mut [u8], at: usize, p: usize, columns: usize) -> u
     ensures { Wrote at (line_text words.now p columns) out.old out.new result }
 {
     let mut next = at;
-    let mut j: usize = 0;
-    while j < columns {
+    for j in 0..columns {
         next = field(words, out, next, p, j);
-        j += 1;
     }
     byte(out, next, b'\n')
 }
@@ -159,12 +125,11 @@ pub(crate) fn lines(words: &[i64], out: &mut [u8], at: usize, columns: usize, n:
     ensures { Wrote at (lines_text words.now columns n) out.old out.new result }
 {
     let mut next = at;
-    let mut p: usize = 0;
-    let mut r: usize = 0;
-    while (r < n) & (next < out.len()) {
-        next = line(words, out, next, p, columns);
-        p += columns;
-        r += 1;
+    for r in 0..n {
+        if next == out.len() {
+            break;
+        }
+        next = line(words, out, next, r * columns, columns);
     }
     next
 }
@@ -193,5 +158,5 @@ pub(crate) fn no_line(out: &mut [u8], n: u8) -> usize
     ensures { Wrote 0 (no_line n) out.old out.new result }
 {
     let first = letters(out, 0, b"no ");
-    figure(out, first, n as u64, b'\n')
+    figure(out, first, u64::from(n), b'\n')
 }

@@ -1,8 +1,6 @@
 -- The value's two words, as they are read.
-use borrow.Author.Rules.{sfits_of}
-use mathlib.Core.Path.{ap₂, ◌∙◌}
+use Rattle.std.proofs.Common.{◌+◌, ◌*◌, get_or, pos, FitsSigned, w64, rules, ap₂}
 use mir.Facts.{to_z-of_z}
-use mir.Syntax.{w64}
 use Rattle.job.specs.Texts.{ratio_text}
 use Rattle.job.proofs.WroteLaws.{wrote_as}
 use Rattle.job.proofs.RowLaws.{field_is}
@@ -10,9 +8,7 @@ use Rattle.job.proofs.put.value.Goals as goal
 
 pub returns : goal.returns
 returns c =
-    let a = c.args in
-    let x = c.word_at in
-    let y = c.word_at-2 in
-    let num = to_z-of_z {w = w64} {z = x.result} (sfits_of x.type_inv) ∙ x.ensures in
-    let den = to_z-of_z {w = w64} {z = y.result} (sfits_of y.type_inv) ∙ y.ensures in
-    field_is a.words.now a.p (wrote_as c.ratio.ensures _ (ap₂ ratio_text num den))
+    let a = c.args in let ws = a.words.now in
+    let num : FitsSigned w64 (get_or ws (2 * a.p) (pos 0)) = search rules in
+    let den : FitsSigned w64 (get_or ws (2 * a.p + 1) (pos 0)) = search rules in
+    field_is ws a.p (wrote_as c.ratio.ensures _ (ap₂ ratio_text (to_z-of_z num) (to_z-of_z den)))
