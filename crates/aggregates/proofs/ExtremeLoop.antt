@@ -15,12 +15,12 @@ use Rattle.model.proofs.AggregateEquations.{present_of-kept, present_of-passed}
 use Rattle.value.specs.declared.Value.{Value}
 use Rattle.value.specs.Exact.{exact, in_words, inside_of, order_of, tell}
 use Rattle.value.proofs.Laws.{inside_is, inside-absent, order-inside}
-use Rattle.aggregates.specs.declared.Aggregate.{Aggregate}
-use Rattle.aggregates.specs.declared.Aggregate.TheVariants as aggregate
+use Rattle.std.specs.Prelude.{Option, None, Some}
 use Rattle.aggregates.specs.Columns.{column_in}
 use Rattle.aggregates.specs.Folds.{is_less, chosen_of, better_of, extreme_in, extreme_of}
-use Rattle.words.specs.Words.{value_at}
-use Rattle.aggregates.proofs.ColumnLaws.{so, column-step, column-none}
+use lib.ListN.{length}
+use Rattle.words.specs.Words.{room_of, value_at, read_at}
+use Rattle.aggregates.proofs.ColumnLaws.{so, column-step, column-none, column_read}
 
 -- ---- the greatest, the least
 exact_back : (v : Value) → inside_of v ≡ true → in_words (exact v) ≡ v
@@ -67,15 +67,11 @@ module _ (g : Bool) (x y : Value) where
 -- the one chosen is one of the two, so it has what both have
 chosen_has : (P : Value → Type 0) (g : Bool) (x y : Value) → P x → P y → P (chosen_of g x y)
 unfolding chosen_of
-chosen_has P g x y a b = go g
+chosen_has P g x y a b = one (is_less (cond g (order_of x y) (order_of y x)))
   where
     one : (t : Bool) → P (cond t y x)
     one true = b
     one false = a
-
-    go : (g : Bool) → P (chosen_of g x y)
-    go true = one (is_less (order_of x y))
-    go false = one (is_less (order_of y x))
 
 better_has : (P : Value → Type 0) (g : Bool) (x y : Value) → P x → P y → P (better_of g x y)
 unfolding better_of
@@ -120,15 +116,15 @@ module _ (x y : Value) (i : inside_of x ≡ true) (k : inside_of y ≡ true) whe
           ∙ ap (λ z. extreme_in g (present_of (exact z ∷ ys))) (better-chosen g x y e f)
 
 -- the best so far, absent at first, and the values left
-unfoldable pub extreme_with : Bool → Value → List Value → Aggregate
+unfoldable pub extreme_with : Bool → Value → List Value → Option Value
 extreme_with g x vs =
     cond (all inside_of vs)
-    (aggregate.Of (in_words (extreme_in g (present_of (exact x ∷ map exact vs))))) aggregate.Outside
+    (Some (in_words (extreme_in g (present_of (exact x ∷ map exact vs))))) None
 
 pub extreme_begin : (g : Bool) (vs : List Value) → extreme_with g (in_words model.absent) vs ≡ extreme_of g vs
 unfolding extreme_with extreme_of model.present
 extreme_begin g vs =
-    ap (λ l. cond (all inside_of vs) (aggregate.Of (in_words (extreme_in g l))) aggregate.Outside)
+    ap (λ l. cond (all inside_of vs) (Some (in_words (extreme_in g l))) None)
     (present_of-passed model.absent (map exact vs) refl)
 
 pub extreme_more : (g : Bool) (x v : Value) (vs : List Value) → inside_of x ≡ true → inside_of v ≡ true
@@ -137,26 +133,26 @@ unfolding extreme_with all
 extreme_more g x v vs i k = rw (k, best-more x v i k g (map exact vs)) refl
 
 pub extreme_stop : (g : Bool) (x v : Value) (vs : List Value) → inside_of v ≡ false
-    → extreme_with g x (v ∷ vs) ≡ aggregate.Outside
+    → extreme_with g x (v ∷ vs) ≡ None
 unfolding extreme_with all
 extreme_stop g x v vs e = rw e refl
 
-pub extreme_end : (g : Bool) (x : Value) → inside_of x ≡ true → extreme_with g x [] ≡ aggregate.Of x
+pub extreme_end : (g : Bool) (x : Value) → inside_of x ≡ true → extreme_with g x [] ≡ Some x
 unfolding extreme_with all present_of filter max_of min_of greatest_from least_from
 extreme_end g x i = go (model.present (exact x)) refl g
   where
     go : (b : Bool) → model.present (exact x) ≡ b → (g : Bool)
-        → aggregate.Of (in_words (extreme_in g (present_of (exact x ∷ [])))) ≡ aggregate.Of x
+        → Some (in_words (extreme_in g (present_of (exact x ∷ [])))) ≡ Some x
     go true e true =
-        ap (λ l. aggregate.Of (in_words (max_of l))) (present_of-kept (exact x) [] e) ∙ ap aggregate.Of (exact_back x i)
+        ap (λ l. Some (in_words (max_of l))) (present_of-kept (exact x) [] e) ∙ ap Some (exact_back x i)
     go true e false =
-        ap (λ l. aggregate.Of (in_words (min_of l))) (present_of-kept (exact x) [] e) ∙ ap aggregate.Of (exact_back x i)
+        ap (λ l. Some (in_words (min_of l))) (present_of-kept (exact x) [] e) ∙ ap Some (exact_back x i)
     go false e true =
-        ap (λ l. aggregate.Of (in_words (max_of l))) (present_of-passed (exact x) [] e)
-        ∙ ap aggregate.Of (sym (inside-absent x (so (inside_of x) i) e))
+        ap (λ l. Some (in_words (max_of l))) (present_of-passed (exact x) [] e)
+        ∙ ap Some (sym (inside-absent x (so (inside_of x) i) e))
     go false e false =
-        ap (λ l. aggregate.Of (in_words (min_of l))) (present_of-passed (exact x) [] e)
-        ∙ ap aggregate.Of (sym (inside-absent x (so (inside_of x) i) e))
+        ap (λ l. Some (in_words (min_of l))) (present_of-passed (exact x) [] e)
+        ∙ ap Some (sym (inside-absent x (so (inside_of x) i) e))
 
 pub record Choosing (n : ℕ) (l : List ℤ) (c count : ℕ) (g : Bool) (x : Value) (j r : ℕ) : Type 0 where
   pub within : r ≤ count
@@ -165,9 +161,9 @@ pub record Choosing (n : ℕ) (l : List ℤ) (c count : ℕ) (g : Bool) (x : Val
   pub rest : extreme_with g x (column_in n l j (count - r)) ≡ extreme_of g (column_in n l c count)
 
 module _ (n : ℕ) (l : List ℤ) (c count : ℕ) (g : Bool) where
-  pub choosing-begin : (v : Value) → v ≡ in_words model.absent → Choosing n l c count g v c 0
+  pub choosing_begin : (v : Value) → v ≡ in_words model.absent → Choosing n l c count g v c 0
   unfolding inside_of model.present
-  choosing-begin v e =
+  choosing_begin v e =
       record {
         within = omega arith;
         place = omega arith;
@@ -179,15 +175,19 @@ module _ (n : ℕ) (l : List ℤ) (c count : ℕ) (g : Bool) where
       }
 
   module _ (x : Value) (j r : ℕ) (h : Choosing n l c count g x j r) where
-    module _ (lt : r < count) (v : Value) (e : v ≡ value_at l j) where
+    module _ (lt : r < count) (column : c < n) (fits : count * n ≤ room_of (length l)) (v : Value) (is : v ≡ read_at l j)
+        where
+      e : v ≡ value_at l j
+      e = column_read l n count c r j lt column fits h.place v is
+
       chose : extreme_with g x (v ∷ column_in n l (j + n) (count - (r + 1))) ≡ extreme_of g (column_in n l c count)
       chose =
           ap (λ y. extreme_with g x (y ∷ column_in n l (j + n) (count - (r + 1)))) e
           ∙ sym (ap (extreme_with g x) (column-step n l j count r lt)) ∙ h.rest
 
-      pub choosing-more : inside_of v ≡ true → (y : Value) → y ≡ better_of g x v
+      pub choosing_more : inside_of v ≡ true → (y : Value) → y ≡ better_of g x v
           → Choosing n l c count g y (j + n) (r + 1)
-      choosing-more i y q = record {
+      choosing_more i y q = record {
         within = omega arith;
         place = omega (arith, h.place);
         inside = ap inside_of q ∙ better_has (λ z. inside_of z ≡ true) g x v h.inside i;
@@ -196,30 +196,8 @@ module _ (n : ℕ) (l : List ℤ) (c count : ℕ) (g : Bool) where
             ∙ sym (extreme_more g x v (column_in n l (j + n) (count - (r + 1))) h.inside i) ∙ chose;
       }
 
-      pub choosing-stop : inside_of v ≡ false → aggregate.Outside ≡ extreme_of g (column_in n l c count)
-      choosing-stop i = sym (extreme_stop g x v (column_in n l (j + n) (count - (r + 1))) i) ∙ chose
+      pub choosing_stop : inside_of v ≡ false → None ≡ extreme_of g (column_in n l c count)
+      choosing_stop i = sym (extreme_stop g x v (column_in n l (j + n) (count - (r + 1))) i) ∙ chose
 
-    pub choosing-end : count ≤ r → aggregate.Of x ≡ extreme_of g (column_in n l c count)
-    choosing-end le = sym (ap (extreme_with g x) (column-none n l j count r le) ∙ extreme_end g x h.inside) ∙ h.rest
-
--- ---- the better of two that are present
-module _ (x y : Value) where
-  pub greater-yes : (g : Bool) → g ≡ true → is_less (order_of x y) ≡ true → y ≡ chosen_of g x y
-  unfolding chosen_of
-  greater-yes true e f = simp f
-  greater-yes false e f = cc
-
-  pub greater-no : (g : Bool) → g ≡ true → is_less (order_of x y) ≡ false → x ≡ chosen_of g x y
-  unfolding chosen_of
-  greater-no true e f = simp f
-  greater-no false e f = cc
-
-  pub lesser-yes : (g : Bool) → g ≡ false → is_less (order_of y x) ≡ true → y ≡ chosen_of g x y
-  unfolding chosen_of
-  lesser-yes false e f = simp f
-  lesser-yes true e f = cc
-
-  pub lesser-no : (g : Bool) → g ≡ false → is_less (order_of y x) ≡ false → x ≡ chosen_of g x y
-  unfolding chosen_of
-  lesser-no false e f = simp f
-  lesser-no true e f = cc
+    pub choosing_end : count ≤ r → Some x ≡ extreme_of g (column_in n l c count)
+    choosing_end le = sym (ap (extreme_with g x) (column-none n l j count r le) ∙ extreme_end g x h.inside) ∙ h.rest

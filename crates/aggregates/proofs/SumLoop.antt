@@ -19,18 +19,13 @@ use Rattle.value.specs.Exact.{exact, inside_of}
 use Rattle.value.proofs.Laws.{inside_is, inside-absent}
 use Rattle.value.proofs.Ints.{abs-add, sfits_abs, read_back}
 use Rattle.aggregates.specs.declared.Sum.{Sum}
-use Rattle.aggregates.specs.declared.Total.{Total}
-use Rattle.aggregates.specs.declared.Total.TheVariants as of-total
 use Rattle.aggregates.specs.Columns.{column_in}
-use Rattle.aggregates.specs.Folds.{counted_of, plus_of, total_of}
-use Rattle.words.specs.Words.{value_at}
-use Rattle.aggregates.proofs.ColumnLaws.{so, column-step, column-none}
+use Rattle.aggregates.specs.Folds.{plus_of, total_of}
+use Rattle.words.specs.Words.{room_of, value_at, read_at}
+use Rattle.aggregates.proofs.ColumnLaws.{so, column-step, column-none, column_read}
+use Rattle.std.specs.Prelude.{Option, None, Some}
 
 -- ---- a sum and one value more
-pub counted_few : (b : Bool) (k : ℕ) → k ≡ counted_of b → k ≤ 1
-counted_few true k e = omega arith
-counted_few false k e = omega arith
-
 module _ (t : Sum) (v : Value) where
   pub plus-value : (plus_of t v).value ≡ t.value +ℤ v.num
   unfolding plus_of
@@ -38,20 +33,18 @@ module _ (t : Sum) (v : Value) where
 
   pub plus-present : (plus_of t v).present ≤ t.present + 1
   unfolding plus_of
-  plus-present = omega (arith, counted_few (model.present (exact v)) (counted_of (model.present (exact v))) refl)
-
-  -- from the sum of two words and the answer of the test
-  pub plus-told : (n : ℤ) (k : ℕ) (b : Bool) → n ≡ t.value +ℤ v.num → k ≡ counted_of b → b ≡ model.present (exact v)
-      → record { value = n; present = t.present + k } ≡ plus_of t v
-  unfolding plus_of
-  plus-told n k b e f is = ap₂ (λ n k. record { value = n; present = t.present + k }) e (f ∙ ap counted_of is)
+  plus-present = go (model.present (exact v))
+    where
+      go : (b : Bool) → t.present + cond b 1 0 ≤ t.present + 1
+      go true = omega arith
+      go false = omega arith
 
 -- ---- the sum
 unfoldable pub plus_all : Sum → List model.Value → Sum
 plus_all t xs = record { value = t.value +ℤ total xs; present = t.present + length xs }
 
-unfoldable pub total_with : Sum → List Value → Total
-total_with t vs = cond (all inside_of vs) (of-total.Of (plus_all t (present_of (map exact vs)))) of-total.Outside
+unfoldable pub total_with : Sum → List Value → Option Sum
+total_with t vs = cond (all inside_of vs) (Some (plus_all t (present_of (map exact vs)))) None
 
 -- one value more: counted, or absent and adding nothing
 module _ (t : Sum) (v : Value) (xs : List model.Value) where
@@ -63,14 +56,14 @@ module _ (t : Sum) (v : Value) (xs : List model.Value) where
   counted e =
       ap₂ whole (sym (+ℤ_assoc t.value v.num (total xs)))
       ((let q : t.present + suc (length xs) ≡ t.present + 1 + length xs = omega arith in q)
-      ∙ ap (λ b. t.present + counted_of b + length xs) (sym e))
+      ∙ ap (λ (b : Bool). t.present + cond b 1 0 + length xs) (sym e))
 
   passed : model.present (exact v) ≡ false → v.num ≡ pos 0 → plus_all t xs ≡ plus_all (plus_of t v) xs
   unfolding plus_all plus_of
   passed e z =
       ap₂ whole (ap (λ n. n +ℤ total xs) (sym (ap (λ n. t.value +ℤ n) z ∙ +ℤ_idr t.value)))
       ((let q : t.present + length xs ≡ t.present + 0 + length xs = omega arith in q)
-      ∙ ap (λ b. t.present + counted_of b + length xs) (sym e))
+      ∙ ap (λ (b : Bool). t.present + cond b 1 0 + length xs) (sym e))
 
 plus_more : (t : Sum) (v : Value) (xs : List model.Value) → inside_of v ≡ true
     → plus_all t (present_of (exact v ∷ xs)) ≡ plus_all (plus_of t v) (present_of xs)
@@ -87,7 +80,7 @@ pub total_begin : (vs : List Value) → total_with (record { value = pos 0; pres
 unfolding total_with total_of plus_all
 total_begin vs =
     let xs = present_of (map exact vs) in
-    ap (λ z. cond (all inside_of vs) (of-total.Of z) of-total.Outside)
+    ap (λ z. cond (all inside_of vs) (Some z) None)
     (ap₂ (λ v p. record { value = v; present = p }) (+ℤ_idl (total xs))
     (let e : 0 + length xs ≡ length xs = omega arith in e))
 
@@ -96,14 +89,14 @@ pub total_more : (t : Sum) (v : Value) (vs : List Value) → inside_of v ≡ tru
 unfolding total_with all
 total_more t v vs e = rw (e, plus_more t v (map exact vs) e) refl
 
-pub total_stop : (t : Sum) (v : Value) (vs : List Value) → inside_of v ≡ false → total_with t (v ∷ vs) ≡ of-total.Outside
+pub total_stop : (t : Sum) (v : Value) (vs : List Value) → inside_of v ≡ false → total_with t (v ∷ vs) ≡ None
 unfolding total_with all
 total_stop t v vs e = rw e refl
 
-pub total_end : (t : Sum) → total_with t [] ≡ of-total.Of t
+pub total_end : (t : Sum) → total_with t [] ≡ Some t
 unfolding total_with plus_all all total present_of filter
 total_end t =
-    ap of-total.Of (ap₂ (λ v p. record { value = v; present = p }) (+ℤ_idr t.value)
+    ap Some (ap₂ (λ v p. record { value = v; present = p }) (+ℤ_idr t.value)
     (let e : t.present + 0 ≡ t.present = omega arith in e))
 
 pub record Summing (n : ℕ) (l : List ℤ) (c count : ℕ) (t : Sum) (j r : ℕ) : Type 0 where
@@ -114,8 +107,8 @@ pub record Summing (n : ℕ) (l : List ℤ) (c count : ℕ) (t : Sum) (j r : ℕ
   pub rest : total_with t (column_in n l j (count - r)) ≡ total_of (column_in n l c count)
 
 module _ (n : ℕ) (l : List ℤ) (c count : ℕ) where
-  pub summing-begin : Summing n l c count (record { value = pos 0; present = 0 }) c 0
-  summing-begin =
+  pub summing_begin : Summing n l c count (record { value = pos 0; present = 0 }) c 0
+  summing_begin =
       record {
         within = omega arith;
         place = omega arith;
@@ -127,14 +120,18 @@ module _ (n : ℕ) (l : List ℤ) (c count : ℕ) where
       }
 
   module _ (t : Sum) (j r : ℕ) (h : Summing n l c count t j r) where
-    module _ (lt : r < count) (v : Value) (e : v ≡ value_at l j) where
+    module _ (lt : r < count) (column : c < n) (fits : count * n ≤ room_of (length l)) (v : Value) (is : v ≡ read_at l j)
+        where
+      e : v ≡ value_at l j
+      e = column_read l n count c r j lt column fits h.place v is
+
       summed : total_with t (v ∷ column_in n l (j + n) (count - (r + 1))) ≡ total_of (column_in n l c count)
       summed =
           ap (λ x. total_with t (x ∷ column_in n l (j + n) (count - (r + 1)))) e
           ∙ sym (ap (total_with t) (column-step n l j count r lt)) ∙ h.rest
 
-      pub summing-more : inside_of v ≡ true → (s : Sum) → s ≡ plus_of t v → Summing n l c count s (j + n) (r + 1)
-      summing-more i s q = record {
+      pub summing_more : inside_of v ≡ true → (s : Sum) → s ≡ plus_of t v → Summing n l c count s (j + n) (r + 1)
+      summing_more i s q = record {
         within = omega arith;
         place = omega (arith, h.place);
         small =
@@ -147,24 +144,23 @@ module _ (n : ℕ) (l : List ℤ) (c count : ℕ) where
             ∙ sym (total_more t v (column_in n l (j + n) (count - (r + 1))) i) ∙ summed;
       }
 
-      pub summing-stop : inside_of v ≡ false → of-total.Outside ≡ total_of (column_in n l c count)
-      summing-stop i = sym (total_stop t v (column_in n l (j + n) (count - (r + 1))) i) ∙ summed
+      pub summing_stop : inside_of v ≡ false → None ≡ total_of (column_in n l c count)
+      summing_stop i = sym (total_stop t v (column_in n l (j + n) (count - (r + 1))) i) ∙ summed
 
-    pub summing-end : count ≤ r → of-total.Of t ≡ total_of (column_in n l c count)
-    summing-end le = sym (ap (total_with t) (column-none n l j count r le) ∙ total_end t) ∙ h.rest
+    pub summing_end : count ≤ r → Some t ≡ total_of (column_in n l c count)
+    summing_end le = sym (ap (total_with t) (column-none n l j count r le) ∙ total_end t) ∙ h.rest
 
 -- ---- one sum of two words
-module _ (t n : ℤ) (small : nat_abs t ≤ 256000000000000000) (v : Value) (e : n ≡ v.num) (i : T (inside_of v)) where
-  operands : to_z w64 (of_z w64 t) +ℤ to_z w64 (of_z w64 n) ≡ t +ℤ v.num
+module _ (t : ℤ) (v : Value) (small : nat_abs t ≤ 256000000000000000) (i : T (inside_of v)) where
+  operands : to_z w64 (of_z w64 t) +ℤ to_z w64 (of_z w64 v.num) ≡ t +ℤ v.num
   operands =
-      ap₂ ◌+ℤ◌ (read_back t (omega arith))
-      (ap (λ z. to_z w64 (of_z w64 z)) e ∙ read_back v.num (omega (arith, (inside_is v i).num)))
+      ap₂ ◌+ℤ◌ (read_back t (omega arith)) (read_back v.num (omega (arith, (inside_is v i).num)))
 
   sum-small : nat_abs (t +ℤ v.num) < 2 ^ 63
   sum-small = omega (arith, abs-add t v.num, (inside_is v i).num)
 
-  pub plus-fits : SFits w64 (to_z w64 (of_z w64 t) +ℤ to_z w64 (of_z w64 n))
-  plus-fits = rw operands (sfits_abs (t +ℤ v.num) sum-small)
+  pub plus_fits : SFits w64 (to_z w64 (of_z w64 t) +ℤ to_z w64 (of_z w64 v.num))
+  plus_fits = rw operands (sfits_abs (t +ℤ v.num) sum-small)
 
-  pub plus-is : to_z w64 (of_z w64 (to_z w64 (of_z w64 t) +ℤ to_z w64 (of_z w64 n))) ≡ t +ℤ v.num
-  plus-is = rw operands (read_back (t +ℤ v.num) sum-small)
+  pub plus_is : to_z w64 (of_z w64 (to_z w64 (of_z w64 t) +ℤ to_z w64 (of_z w64 v.num))) ≡ t +ℤ v.num
+  plus_is = rw operands (read_back (t +ℤ v.num) sum-small)

@@ -20,42 +20,39 @@ pub(crate) struct Sum {
     pub(crate) present: u64,
 }
 
-// The sum of a column.
+// Why a column has no aggregate.
 #[derive(Clone, Copy)]
-pub(crate) enum Total {
-    Of(Sum),
-    Outside,
-}
-
-// An aggregate of a column.
-#[derive(Clone, Copy)]
-pub enum Aggregate {
-    Of(Value),
+pub enum Fault {
     Outside,
     Refused,
 }
 
-// Function f (0 count, 1 sum, 2 min, 3 max, 4 and above ave) of column c of a set.
-pub fn aggregate_of(words: &[i64], n: usize, count: usize, f: u8, c: usize) -> Aggregate
+// Function f (0 count, 1 sum, 2 min, 3 max, 4 and above ave) of column c of a set. Functions are given by their numbers,
+// as the question's bytes give them.
+#[tactic(auto, using(crate::proofs::FunctionLaws::over_count, crate::proofs::FunctionLaws::over_sum_none, crate::proofs::FunctionLaws::over_sum, crate::proofs::FunctionLaws::over_min, crate::proofs::FunctionLaws::over_max, crate::proofs::FunctionLaws::over_average_none, crate::proofs::FunctionLaws::average_in), unfolding(crate::specs::Columns::aggregate_in, crate::specs::Columns::readable))]
+pub fn aggregate_of(words: &[i64], n: usize, count: usize, f: u8, c: usize) -> Result<Value, Fault>
     ensures { result ≡ aggregate_in f c n count words.now }
 {
     if !column::can_read(n, count, words::room(words.len()), c) {
-        return Aggregate::Refused;
+        return Err(Fault::Refused);
     }
-    if f == 0 {
-        return Aggregate::Of(Value {
+    match f {
+        0 => Ok(Value {
             num: count as i64,
             den: 1,
-        });
+        }),
+        1 => {
+            let s = column::sum_column(words, n, count, c).ok_or(Fault::Outside)?;
+            Ok(Value {
+                num: s.value,
+                den: 1,
+            })
+        }
+        2 => column::extreme(words, n, count, c, false).ok_or(Fault::Outside),
+        3 => column::extreme(words, n, count, c, true).ok_or(Fault::Outside),
+        _ => {
+            let s = column::sum_column(words, n, count, c).ok_or(Fault::Outside)?;
+            value::average(s.value, s.present).ok_or(Fault::Outside)
+        }
     }
-    if f == 1 {
-        return column::as_sum(column::sum_column(words, n, count, c));
-    }
-    if f == 2 {
-        return column::extreme(words, n, count, c, false);
-    }
-    if f == 3 {
-        return column::extreme(words, n, count, c, true);
-    }
-    column::as_average(column::sum_column(words, n, count, c))
 }

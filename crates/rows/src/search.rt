@@ -35,11 +35,10 @@ pub(crate) fn finish(row: &[i64], words: &[i64], n: usize, from: usize, to: usiz
     let mut hi = to;
     while lo < hi {
         let mid = lo + (hi - lo) / 2;
-        match compare_row(row, words, mid * n, n) {
-            None => return Err(Fault::Outside),
-            Some(Ordering::Less) => hi = mid,
-            Some(Ordering::Equal) => return Ok(Place::There(mid)),
-            Some(Ordering::Greater) => lo = mid + 1,
+        match compare_row(row, words, mid * n, n).ok_or(Fault::Outside)? {
+            Ordering::Less => hi = mid,
+            Ordering::Equal => return Ok(Place::There(mid)),
+            Ordering::Greater => lo = mid + 1,
         }
     }
     Ok(Place::New(lo))
