@@ -3,9 +3,10 @@
 #![tactic(auto)]
 
 ghost use Rattle.std.specs.Prelude.{◌-◌, ◌≡◌};
-ghost use Rattle.clock.specs.Clock.{charged, spent_at};
+ghost use Rattle.clock.specs.Clock.{charged};
 
-// The trials counted, whether the budget is spent, and whether some evaluated set is too large.
+// The trials counted, whether the budget is spent, and whether some evaluated set is too large. The flags stay flags: both
+// can be up, and each alone.
 #[derive(Clone, Copy)]
 pub struct Progress {
     pub trials: u64,
@@ -13,31 +14,21 @@ pub struct Progress {
     pub large: bool,
 }
 
-// The budget spent.
-fn spent_at(p: Progress, budget: u64) -> Progress
-    ensures { result ≡ spent_at budget p }
-{
-    Progress {
-        trials: budget,
-        spent: true,
-        large: p.large,
-    }
-}
-
 // n more trials; past the budget it is spent.
+#[tactic(auto, unfolding(crate::specs::Clock::charged))]
 pub fn charge_all(p: Progress, budget: u64, n: u64) -> Progress
     ensures { result ≡ charged budget p n }
 {
-    if budget < p.trials {
-        return spent_at(p, budget);
-    }
-    if budget - p.trials < n {
-        return spent_at(p, budget);
-    }
-    Progress {
-        trials: p.trials + n,
-        spent: p.spent,
-        large: p.large,
+    match budget.checked_sub(p.trials) {
+        Some(left) if n <= left => Progress {
+            trials: p.trials + n,
+            ..p
+        },
+        _ => Progress {
+            trials: budget,
+            spent: true,
+            ..p
+        },
     }
 }
 
@@ -45,15 +36,12 @@ pub fn charge_all(p: Progress, budget: u64, n: u64) -> Progress
 pub fn charge(p: Progress, budget: u64, n: u16) -> Progress
     ensures { result ≡ charged budget p n }
 {
-    charge_all(p, budget, n as u64)
+    charge_all(p, budget, u64::from(n))
 }
 
 // How many trials came since, 0 where there were more before.
 pub fn since(old: u64, new: u64) -> u64
     ensures { result ≡ new - old }
 {
-    if old < new {
-        return new - old;
-    }
-    0
+    new.saturating_sub(old)
 }

@@ -5,10 +5,11 @@ use native.Mathlib.Omega.{arith}
 use mathlib.Core.Bool.{true, false, cond}
 use mathlib.Core.List.{List}
 use mathlib.Core.Option.{none, some}
+use Rattle.std.specs.Prelude.{Some, None}
 use mathlib.Core.Path.{◌≡◌, refl, sym, ◌∙◌, ap}
 use lib.ListN.{length, take, drop}
 use Rattle.model.specs.Listing.{bad_job}
-use Rattle.job.specs.Budgets.{budget_in, budget_at}
+use Rattle.job.specs.Budgets.{budget_in, budget_at, trials_of}
 use Rattle.job.specs.declared.Budget.{Budget}
 use Rattle.job.proofs.BudgetLaws.{budget-told, budget-begins}
 use Rattle.reply.specs.Reply.{reply_of, budgeted_of}
@@ -25,18 +26,10 @@ module _ (bs : List ℕ) where
   unfolding budgeted_of
   no-budget e = rw (e, budgeted_of) refl
 
-  module _ (b : Budget) (b-is : b ≡ budget_at bs) where
-    told-by : budget_in (drop i bs) ≡ cond b.ok (some b.trials) none
-    told-by = budget-told bs ∙ ap (λ (c : Budget). cond c.ok (some c.trials) none) (sym b-is)
+  pub budgeted-taken : (b : Budget) → budget_at bs ≡ Some b → reply_of b.trials (take b.at bs) ≡ budgeted_of bs
+  budgeted-taken b e =
+      ap (λ n. reply_of b.trials (take n bs)) (budget-begins bs b e)
+      ∙ sym (some-budget b.trials (budget-told bs ∙ ap trials_of e))
 
-    pub budgeted-taken : b.ok ≡ true → (n : ℕ) → n ≡ min b.at (length bs)
-        → reply_of b.trials (take n bs) ≡ budgeted_of bs
-    budgeted-taken ok n n-is =
-        let there = sym (ap (λ (c : Budget). c.ok) b-is) ∙ ok in
-        let at = ap (λ (c : Budget). c.at) b-is ∙ budget-begins bs there in
-        let same : n ≡ i = omega arith in
-        ap (λ m. reply_of b.trials (take m bs)) same
-        ∙ sym (some-budget b.trials (told-by ∙ ap (λ t. cond t (some b.trials) none) ok))
-
-    pub budgeted-left : b.ok ≡ false → bad_job ≡ budgeted_of bs
-    budgeted-left ok = sym (no-budget (told-by ∙ ap (λ t. cond t (some b.trials) none) ok))
+  pub budgeted-left : budget_at bs ≡ None → bad_job ≡ budgeted_of bs
+  budgeted-left e = sym (no-budget (budget-told bs ∙ ap trials_of e))

@@ -1,5 +1,4 @@
 -- The text for the bytes of a job, from what the calls give.
---   part_cut        the bytes of a part, its places held within the bytes
 --   words-told      the words of the data in front of the words lent are the data's
 --   reply_job       the reply to the parts of a job; reply_bad: to bytes that are no job
 --   lengths_are     the buffers have the named lengths; answer_run: the text over what a run leaves in the result
@@ -9,6 +8,7 @@ use native.Mathlib.Omega.{arith}
 use mathlib.Core.Bool.{true, false, cond}
 use mathlib.Core.List.{List, ◌++◌}
 use mathlib.Core.Option.{Option, none, some}
+use Rattle.std.specs.Prelude.{Some, None}
 use mathlib.Core.Path.{◌≡◌, refl, sym, ◌∙◌, ap, ap₂}
 use borrow.Author.Tests.{leb-true, leb-false}
 use lib.Dec.{leb}
@@ -30,32 +30,6 @@ use Rattle.job.proofs.WordLaws.{words-length}
 use Rattle.syntax.proofs.Laws.{on}
 use Rattle.reply.specs.Reply.{answered_under, reply_to, reply_of}
 
--- ---- a part of the bytes
-less : {A : Type 0} (n : ℕ) (l : List A) → take (min n (length l)) l ≡ take n l
-less n l =
-    on (leb n (length l))
-    (λ e. let h = leb-true n (length l) e in ap (λ m. take m l) (let z : min n (length l) ≡ n = omega arith in z))
-    (λ e.
-    let h = leb-false n (length l) e in
-    take_all (min n (length l)) l (omega arith) ∙ sym (take_all n l (omega arith)))
-
-pub part_cut : {A : Type 0} (bs : List A) (at n : ℕ)
-    → take (min n (length bs - min at (length bs))) (drop (min at (length bs)) bs) ≡ take n (drop at bs)
-part_cut bs at n =
-    ap (λ m. take (min n m) (drop (min at (length bs)) bs)) (sym (length-drop (min at (length bs)) bs))
-    ∙ less n (drop (min at (length bs)) bs) ∙ ap (take n) from
-  where
-    from : drop (min at (length bs)) bs ≡ drop at bs
-    from =
-        on (leb at (length bs))
-        (λ e. let h = leb-true at (length bs) e in
-        ap (λ m. drop m bs) (let z : min at (length bs) ≡ at = omega arith in z))
-        (λ e.
-        let h = leb-false at (length bs) e in
-        let m : length bs ≤ min at (length bs) = omega arith in
-        let k : length bs ≤ at = omega arith in
-        drop_of_length-le bs m ∙ sym (drop_of_length-le bs k))
-
 -- ---- the words of the data
 words_front : {A : Type 0} (xs ys : List A) (n : ℕ) → n ≡ length xs → take n (overwrite xs ys) ≡ xs
 unfolding overwrite
@@ -76,18 +50,6 @@ words-told m bs ds ds-are short zs room n n-is ws ws-are =
     ∙ words_front (words_of ds) zs n (omega arith) ∙ ap words_of ds-are
 
 -- ---- the reply
-abbrev job_at : List ℕ → Parts → Job
-job_at bs p =
-    record {
-      «data» = take p.data_length (drop p.«data» bs);
-      question = take p.question_length (drop p.question bs);
-      plan = take p.plan_length (drop p.plan bs);
-    }
-
-no_job : (bs : List ℕ) (p : Parts) → p.ok ≡ false → job_in bs p ≡ none
-unfolding job_in
-no_job bs p ok = rw ok refl
-
 reply_some : (b : ℕ) (bs : List ℕ) (j : Job) → job_of bs ≡ some j → reply_of b bs ≡ reply_to b j
 unfolding reply_of
 reply_some b bs j e = rw (e, reply_of) refl
@@ -96,17 +58,16 @@ reply_none : (b : ℕ) (bs : List ℕ) → job_of bs ≡ none → reply_of b bs 
 unfolding reply_of
 reply_none b bs e = rw (e, reply_of) refl
 
-pub reply_job : (b : ℕ) (bs : List ℕ) (p : Parts) → p ≡ parts_of bs → p.ok ≡ true
+pub reply_job : (b : ℕ) (bs : List ℕ) (p : Parts) → parts_of bs ≡ Some p
     → reply_of b bs
     ≡ answered_under b (words_of (take p.data_length (drop p.«data» bs)))
     (take p.question_length (drop p.question bs)) (take p.plan_length (drop p.plan bs))
 unfolding reply_to job_in
-reply_job b bs p p-is ok =
-    reply_some b bs (job_at bs p)
-    (job-told bs ∙ ap (job_in bs) (sym p-is) ∙ ap (λ t. cond t (some (job_at bs p)) none) ok)
+reply_job b bs p e = reply_some b bs _ (job-told bs ∙ ap (job_in bs) e)
 
-pub reply_bad : (b : ℕ) (bs : List ℕ) (p : Parts) → p ≡ parts_of bs → p.ok ≡ false → reply_of b bs ≡ bad_job
-reply_bad b bs p p-is ok = reply_none b bs (job-told bs ∙ ap (job_in bs) (sym p-is) ∙ no_job bs p ok)
+pub reply_bad : (b : ℕ) (bs : List ℕ) → parts_of bs ≡ None → reply_of b bs ≡ bad_job
+unfolding job_in
+reply_bad b bs e = reply_none b bs (job-told bs ∙ ap (job_in bs) e)
 
 -- the buffers of a run, before it
 pub lengths_are : (z : ℤ)

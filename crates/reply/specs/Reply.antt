@@ -3,15 +3,13 @@
 --   answered_under b d qs ps   the text of the answer to a question over tables by a plan, under budget b
 --   reply_to b j      the text for job j; reply_of b bs: for the bytes bs
 --   budgeted_of bs    the text for a job and the budget behind it, in the last fourteen bytes; else "bad job"
---   Cut bs at n r    the bytes from r's one place to its other are the n bytes from place `at` on, as far as there are any
-use Rattle.std.specs.Prelude.{ℕ, ◌-◌, ◌≤◌, List, ◌≡◌, ℤ, length, take, drop}
+use Rattle.std.specs.Prelude.{ℕ, ◌-◌, List, ℤ, length, take, drop}
 use Rattle.std.proofs.Math.Option.{none, some}
 use Rattle.model.specs.Answer.{answer_of}
 use Rattle.model.specs.Listing.{Job, job_of, words_of, answer_text, bad_job, long_enough}
 use Rattle.model.specs.Matching.{result}
 use Rattle.model.specs.Records.{question_of}
 use Rattle.job.specs.Budgets.{budget_in}
-use Rattle.reply.specs.declared.Span.{Span}
 
 unfoldable pub answered_under : ℕ → List ℤ → (qs ps : List ℕ) → List ℕ
 answered_under b d qs ps = answer_text (answer_of long_enough d qs ps b) (result d (question_of qs))
@@ -26,8 +24,3 @@ unfoldable pub budgeted_of : List ℕ → List ℕ
 budgeted_of bs =
     let n = length bs - 14 in
     elim (budget_in (drop n bs)) [ none ↦ bad_job | some b ↦ reply_of b (take n bs) ]
-
-pub record Cut (bs : List ℕ) (at n : ℕ) (r : Span) : Type 0 where
-  pub ordered : r.at ≤ r.end
-  pub inside : r.end ≤ length bs
-  pub bytes : take (r.end - r.at) (drop r.at bs) ≡ take n (drop at bs)
