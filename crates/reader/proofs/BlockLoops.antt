@@ -10,6 +10,7 @@ use Rattle.reader.specs.Walk.{block_cause, context_at, cause_at, blocks_cause}
 use Rattle.reader.specs.declared.Context.{Context}
 use Rattle.model.specs.Question.{block_at}
 use Rattle.model.specs.Scope.{owns}
+use Rattle.reader.proofs.WalkLaws.{block_min}
 use Rattle.scope.specs.Masks.{mask_of}
 use Rattle.syntax.specs.Described.{described, blocks_in}
 use Rattle.syntax.specs.declared.Block.{Block}
@@ -25,14 +26,29 @@ context_is bs q two j k own above b e f g h =
     g ∙ ap (λ (x : Block). mask_of (λ v. owns v (described bs x))) (f ∙ ap (block_of q) e) in
     λ i. record { question = q; block = j; own = o i; above = h i; twice = two }
 
-pub cause_is : (d : List ℤ) (bs : List ℕ) (q : Question) (two j m k c l r : ℕ) (x : Context) (b : Block) → k ≡ j
-    → x ≡ context_at bs q two j
-    → b ≡ block_of q k → c ≡ place_cause (blocks_in bs q) j → l ≡ min m c → r ≡ block_cause d bs x b l
-    → r ≡ cause_at d bs q two j m
+-- the least cause of a block is the lesser of its place's and its elements'
+pub cause_joined : (d : List ℤ) (bs : List ℕ) (q : Question) (two j : ℕ)
+    → min (place_cause (blocks_in bs q) j) (block_cause d bs (context_at bs q two j) (block_of q j) 11)
+    ≡ cause_at d bs q two j 11
 unfolding cause_at
-cause_is d bs q two j m k c l r x b e f g h i s =
-    s ∙ ap (λ y. block_cause d bs y b l) f
-    ∙ ap₂ (block_cause d bs (context_at bs q two j)) (g ∙ ap (block_of q) e) (i ∙ ap (min m) h)
+cause_joined d bs q two j =
+    let x = context_at bs q two j in
+    let b = block_of q j in
+    let c = place_cause (blocks_in bs q) j in
+    let p = block_min d bs x b (min 11 c) (omega arith) in
+    let s = block_min d bs x b 11 (omega arith) in
+    omega arith
+
+cause_min : (d : List ℤ) (bs : List ℕ) (q : Question) (two j m : ℕ) → m ≤ 11
+    → cause_at d bs q two j m ≡ min m (cause_at d bs q two j 11)
+unfolding cause_at
+cause_min d bs q two j m l =
+    let x = context_at bs q two j in
+    let b = block_of q j in
+    let c = place_cause (blocks_in bs q) j in
+    let p = block_min d bs x b (min m c) (omega arith) in
+    let s = block_min d bs x b (min 11 c) (omega arith) in
+    omega arith
 
 module _ (d : List ℤ) (bs : List ℕ) (q : Question) (two : ℕ) where
   pub record Walked (n j least : ℕ) : Type 0 where
@@ -55,14 +71,15 @@ module _ (d : List ℤ) (bs : List ℕ) (q : Question) (two : ℕ) where
       ap₂ (λ a b. blocks_cause d bs q two a b (cause_at d bs q two j m)) (let e : k ≡ suc k - 1 = omega arith in e)
       (let e : suc j ≡ j + 1 = omega arith in e)
 
-  pub walked_more : (n j least r : ℕ) → j < n → r ≡ cause_at d bs q two j least → r ≤ 11 → Walked n j least
+  pub walked_more : (n j least r : ℕ) → j < n → r ≡ min least (cause_at d bs q two j 11) → Walked n j least
       → Walked n (j + 1) r
-  walked_more n j least r h e b w =
+  walked_more n j least r h e w =
       let k : n - (j + 1) ≡ n - j - 1 = omega arith in
+      let l = w.small in
       record {
-        same = rw (k, e) (sym (step (n - j) j least (omega arith)) ∙ w.same);
+        same = rw (k, e, sym (cause_min d bs q two j least l)) (sym (step (n - j) j least (omega arith)) ∙ w.same);
         few = omega arith;
-        small = b;
+        small = omega arith;
       }
 
   pub walked_end : (n j least : ℕ) → n ≤ j → Walked n j least → least ≡ blocks_cause d bs q two n 0 11

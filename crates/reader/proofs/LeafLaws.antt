@@ -15,15 +15,7 @@ use Rattle.model.specs.Format.{signed}
 use Rattle.model.specs.Question.{empty, constant, variable, fixed, aggregate, Block}
 use Rattle.model.specs.Scope.{levels}
 use Rattle.scope.specs.Masks.{has_bit}
-use Rattle.syntax.specs.Places.{no_block}
-use Rattle.syntax.specs.declared.Block.{Block as Block'}
 use borrow.Author.Tests.{lt-ltb, le-ltb, le-leb, lt-leb}
-
-pub kept_at : (k : ℕ) (b : Block') → k < 5 → b ≡ cond (ltb k 5) b no_block
-kept_at k b h = sym (ap (λ t. cond t b no_block) (lt-ltb k 5 h))
-
-pub none_kept : (k : ℕ) (b : Block') → 5 ≤ k → no_block ≡ cond (ltb k 5) b no_block
-none_kept k b h = sym (ap (λ t. cond t b no_block) (le-ltb k 5 h))
 
 pub mask_in : (m v : ℕ) → v < 16 → has_bit m v ≡ in_mask m v
 mask_in m v h = sym (ap (λ t. t && has_bit m v) (lt-ltb v 16 h))

@@ -3,7 +3,6 @@ pub mod NumberLaws
 pub mod ScopeLaws
 pub mod LeafLaws
 pub mod WalkLaws
-pub mod KindLaws
 pub mod MaskLoops
 pub mod BlockLoops
 pub mod ReadLaws

@@ -1,6 +1,6 @@
 -- The walk by place: a turn of each loop, what stands past the end, and that it is the least cause over the model's
 -- elements.
-use Prim.Native.Nat.{ℕ, zero, suc, ◌+◌, ◌-◌, ◌≤◌, ◌<◌, min}
+use Prim.Native.Nat.{ℕ, zero, suc, ◌+◌, ◌≤◌, ◌<◌, min}
 use native.Mathlib.Decide.{dec_lt}
 use native.Mathlib.Nat.{min-eq_left}
 use native.Mathlib.Omega.{arith}
@@ -20,15 +20,17 @@ use Rattle.model.specs.Checks.{element_there, ratio_at}
 use Rattle.model.specs.Lists.{concat_map}
 use Rattle.model.specs.Question.{Element, aggregate, Condition, other_elements}
 use Rattle.reader.proofs.LeafLaws.{empty_is, variable_is, fixed_is, aggregate-is, constant-is}
-use Rattle.syntax.proofs.Conditions.{past-stays}
-use Rattle.syntax.proofs.Laws.{byte_past, record_in, both}
+use Rattle.syntax.proofs.Conditions.{end-within, past-stays}
+use Rattle.syntax.proofs.Laws.{byte_past, record_in, both, on}
 use Rattle.syntax.proofs.Lie.{records_ok, Lies}
 use Rattle.syntax.proofs.Whole.{elements-length}
 use Rattle.syntax.specs.Described.{decode, element_at, elements_at, relation_at, relations_at, condition_at, conditions_at}
 use Rattle.syntax.specs.Described.{described, blocks_in}
 use Rattle.syntax.specs.Places.{byte_at, word_at, item_at, no_block, record_ok, record_end}
 use Rattle.syntax.specs.Places.{condition_end}
+use Rattle.syntax.specs.Walks.{places, element_places, condition_places, relation_places}
 use Rattle.syntax.specs.declared.Block.{Block}
+use Rattle.syntax.specs.declared.Record.TheVariants.{Rw, Cd}
 use borrow.Author.Tests.{lt-ltb, le-ltb, ltb-true, ne_eqb}
 use Rattle.model.specs.Question as model
 
@@ -46,25 +48,114 @@ module _ (bs : List ℕ) (x : Context) where
       ∙ ap (elements_cause bs x n (i + 9)) (min-eq_left l)
       ∙ elements-past n (i + 9) m (omega arith) l
 
-  pub elements_turn : (n i m : ℕ) → 0 < n
-      → elements_cause bs x n i m ≡ elements_cause bs x (n - 1) (i + 9) (min m (element_cause bs x (item_at bs i)))
-  unfolding elements_cause
-  elements_turn zero i m h = absurd (omega arith)
-  elements_turn (suc n) i m h =
-      ap (λ k. elements_cause bs x k (i + 9) (min m (element_cause bs x (item_at bs i))))
-      (let e : n ≡ suc n - 1 = omega arith in e)
-
-  pub elements_done : (n i m : ℕ) → n ≤ 0 → elements_cause bs x n i m ≡ m
-  unfolding elements_cause
-  elements_done zero i m h = refl
-  elements_done (suc n) i m h = absurd (omega arith)
-
   pub conditions-past : (n i m : ℕ) → length bs ≤ i → m ≤ 11 → conditions_cause bs x n i m ≡ m
   unfolding conditions_cause
   conditions-past zero i m h l = refl
   conditions-past (suc n) i m h l =
       ap (conditions_cause bs x n (condition_end bs i)) (elements-past 2 (i + 3) m (omega arith) l)
       ∙ conditions-past n (condition_end bs i) m (past-stays bs i h) l
+
+  -- a walk from m on is the lesser of m and the walk by itself
+  pub elements_min : (n i m : ℕ) → m ≤ 11 → elements_cause bs x n i m ≡ min m (elements_cause bs x n i 11)
+  unfolding elements_cause
+  elements_min zero i m l = omega arith
+  elements_min (suc n) i m l =
+      let c = element_cause bs x (item_at bs i) in
+      let p = elements_min n (i + 9) (min m c) (omega arith) in
+      let q = elements_min n (i + 9) (min 11 c) (omega arith) in
+      omega arith
+
+  pub conditions_min : (n i m : ℕ) → m ≤ 11 → conditions_cause bs x n i m ≡ min m (conditions_cause bs x n i 11)
+  unfolding conditions_cause
+  conditions_min zero i m l = omega arith
+  conditions_min (suc n) i m l =
+      let e = elements_min 2 (i + 3) m l in
+      let f = elements_min 2 (i + 3) 11 (omega arith) in
+      let p = conditions_min n (condition_end bs i) (elements_cause bs x 2 (i + 3) m) (omega arith) in
+      let q = conditions_min n (condition_end bs i) (elements_cause bs x 2 (i + 3) 11) (omega arith) in
+      omega arith
+
+  -- a walk takes the least over the places that it passes
+  pub elements_walked : (n i m : ℕ) → m ≤ 11
+      → lowest (λ j. element_cause bs x (item_at bs j)) (element_places bs n i) m ≡ elements_cause bs x n i m
+  unfolding elements_cause lowest places
+  elements_walked zero i m l = refl
+  elements_walked (suc n) i m l =
+      on (ltb i (length bs))
+      (λ e. rw e (elements_walked n (i + 9) (min m (element_cause bs x (item_at bs i))) (omega arith)))
+      (λ e. rw e (sym (elements-past (suc n) i m (grind arith) l)))
+
+  pub conditions_walked : (n i m : ℕ) → m ≤ 11
+      → lowest (λ j. elements_cause bs x 2 (j + 3) 11) (condition_places bs n i) m ≡ conditions_cause bs x n i m
+  unfolding conditions_cause lowest places
+  conditions_walked zero i m l = refl
+  conditions_walked (suc n) i m l =
+      on (ltb i (length bs))
+      (λ e.
+      let s = end-within bs i (grind arith) in
+      let f = elements_min 2 (i + 3) m l in
+      rw (e, s, f) (conditions_walked n (record_end Cd bs i) (min m (elements_cause bs x 2 (i + 3) 11)) (omega arith)))
+      (λ e. rw e (sym (conditions-past (suc n) i m (grind arith) l)))
+
+module _ (d : List ℤ) (bs : List ℕ) (x : Context) where
+  -- the least cause of the relation row at a place
+  abbrev pub row_least : ℕ → ℕ
+  row_least j = min (row_cause_at d bs j) (elements_cause bs x (byte_at bs (j + 3)) (j + 4) 11)
+
+  pub rows_min : (n i m : ℕ) → m ≤ 11 → rows_cause d bs x n i m ≡ min m (rows_cause d bs x n i 11)
+  unfolding rows_cause
+  rows_min zero i m l = omega arith
+  rows_min (suc n) i m l =
+      on (ltb i (length bs))
+      (λ e.
+      let c = row_cause_at d bs i in
+      let k = byte_at bs (i + 3) in
+      let j = record_end Rw bs i in
+      let a = elements_min bs x k (i + 4) (min m c) (omega arith) in
+      let b = elements_min bs x k (i + 4) (min 11 c) (omega arith) in
+      let p = rows_min n j (elements_cause bs x k (i + 4) (min m c)) (omega arith) in
+      let q = rows_min n j (elements_cause bs x k (i + 4) (min 11 c)) (omega arith) in
+      rw e (omega arith))
+      (λ e. rw e (omega arith))
+
+  pub rows_walked : (n i m : ℕ) → m ≤ 11 → lowest row_least (relation_places bs n i) m ≡ rows_cause d bs x n i m
+  unfolding rows_cause lowest places
+  rows_walked zero i m l = refl
+  rows_walked (suc n) i m l =
+      on (ltb i (length bs))
+      (λ e.
+      let c = row_cause_at d bs i in
+      let k = byte_at bs (i + 3) in
+      let a = elements_min bs x k (i + 4) (min m c) (omega arith) in
+      let s : elements_cause bs x k (i + 4) (min m c) ≡ min m (row_least i) = omega arith in
+      rw (e, s) (rows_walked n (record_end Rw bs i) (min m (row_least i)) (omega arith)))
+      (λ e. rw e refl)
+
+  -- a block's causes are the least of its parts'
+  pub block_joined : (b : Block)
+      → min (min (rows_cause d bs x b.rows b.rows_at 11) (conditions_cause bs x b.conditions b.conditions_at 11))
+      (elements_cause bs x b.outputs b.outputs_at 11)
+      ≡ block_cause d bs x b 11
+  unfolding block_cause
+  block_joined b =
+      let r = rows_cause d bs x b.rows b.rows_at 11 in
+      let a = rows_min b.rows b.rows_at 11 (omega arith) in
+      let c = conditions_min bs x b.conditions b.conditions_at r (omega arith) in
+      let e = elements_min bs x b.outputs b.outputs_at (conditions_cause bs x b.conditions b.conditions_at r) (omega arith) in
+      omega arith
+
+  pub block_min : (b : Block) (m : ℕ) → m ≤ 11 → block_cause d bs x b m ≡ min m (block_cause d bs x b 11)
+  unfolding block_cause
+  block_min b m l =
+      let r = rows_cause d bs x b.rows b.rows_at m in
+      let w = rows_cause d bs x b.rows b.rows_at 11 in
+      let a = rows_min b.rows b.rows_at m l in
+      let z = rows_min b.rows b.rows_at 11 (omega arith) in
+      let c = conditions_min bs x b.conditions b.conditions_at r (omega arith) in
+      let y = conditions_min bs x b.conditions b.conditions_at w (omega arith) in
+      let e = elements_min bs x b.outputs b.outputs_at (conditions_cause bs x b.conditions b.conditions_at r) (omega arith) in
+      let v = elements_min bs x b.outputs b.outputs_at (conditions_cause bs x b.conditions b.conditions_at w) (omega arith) in
+      omega arith
 
 -- the element at a place
 module _ (bs : List ℕ) (x : Context) (long : length x.question.blocks ≡ 5) where
@@ -171,19 +262,19 @@ module _ (bs : List ℕ) (x : Context) (long : length x.question.blocks ≡ 5) w
   unfolding row_cause_at row_cause relation_at
   row_is d i = rw (elements-length bs (byte_at bs (i + 3)) (i + 4)) refl
 
-  pub rows_are : (d : List ℤ) (n i m : ℕ) → records_ok 0 bs n i ≡ true
+  pub rows_are : (d : List ℤ) (n i m : ℕ) → records_ok Rw bs n i ≡ true
       → rows_cause d bs x n i m ≡ rows_lowest d Q x.block masks (relations_at bs n i) m
   unfolding rows_cause rows_lowest relations_at relation_at records_ok
   rows_are d zero i m e = refl
   rows_are d (suc n) i m e =
-      let b = both (record_ok 0 bs i) (records_ok 0 bs n (record_end 0 bs i)) e in
-      let g = record_in 0 bs i b.0 in
+      let b = both (record_ok Rw bs i) (records_ok Rw bs n (record_end Rw bs i)) e in
+      let g = record_in Rw bs i b.0 in
       rw (
         lt-ltb i (length bs) (omega arith),
         row_is d i,
         elements-are (byte_at bs (i + 3)) (i + 4) (min m (row_cause d (relation_at bs i))),
       )
-      (rows_are d n (record_end 0 bs i) _ b.1)
+      (rows_are d n (record_end Rw bs i) _ b.1)
 
   -- conditions
   abbrev sides : List Condition → List Element

@@ -21,6 +21,7 @@ use Rattle.syntax.specs.Places.{byte_at, item_at, record_end, condition_end}
 use Rattle.syntax.specs.declared.Block.{Block}
 use Rattle.syntax.specs.declared.Item.{Item}
 use Rattle.syntax.specs.declared.Question.{Question}
+use Rattle.syntax.specs.declared.Record.TheVariants.{Rw}
 
 abbrev pub cause_by_kind : (k constant variable fixed aggregate : ℕ) → ℕ
 cause_by_kind k c v f a = cond (eqb k 0) 11 (cond (eqb k 1) c (cond (eqb k 2) v (cond (eqb k 3) f a)))
@@ -44,7 +45,7 @@ unfoldable pub rows_cause : List ℤ → List ℕ → Context → (n i m : ℕ) 
 rows_cause d bs x zero i m = m
 rows_cause d bs x (suc n) i m =
     cond (ltb i (length bs))
-    (rows_cause d bs x n (record_end 0 bs i)
+    (rows_cause d bs x n (record_end Rw bs i)
     (elements_cause bs x (byte_at bs (i + 3)) (i + 4) (min m (row_cause_at d bs i)))) m
 
 unfoldable pub conditions_cause : List ℕ → Context → (n i m : ℕ) → ℕ

@@ -18,7 +18,9 @@ ghost use Rattle.reader.specs.Leaves.{aggregate_cause};
 
 use model::Refusal;
 use scope::{has, ratio};
-use syntax::{Block, Item, Question, byte_at, condition_end, item_at};
+use syntax::{
+    Block, Item, Question, byte_at, each_condition, each_element, each_relation, item_at,
+};
 
 // What the elements of a block are held to: the question's descriptions, the block's number, the variables that
 // belong to it, to its proper ancestors, and to two blocks.
@@ -31,52 +33,41 @@ pub struct Context {
     pub twice: u16,
 }
 
-// The lesser of two causes.
-fn lower(x: u8, y: u8) -> u8
-    ensures { result ≡ min x y }
-{
-    if y < x {
-        return y;
-    }
-    x
-}
-
-// The first where the test holds, else the second.
-fn pick(t: bool, x: u8, y: u8) -> u8
-    ensures { result ≡ cond t x y }
-{
-    if t {
-        return x;
-    }
-    y
-}
-
 // 10: a constant, given by its 64 bits, beyond 10^15 in size.
 fn constant_cause(a: u64) -> u8
     ensures { result ≡ constant_cause a }
 {
-    pick((a > 1000000000000000) & (a < 18445744073709551616), 10, 11)
+    if (a > 1000000000000000) & (a < 18445744073709551616) {
+        10
+    } else {
+        11
+    }
 }
 
 // 7 and 8: a variable of the block itself.
 fn variable_cause(own: u16, twice: u16, v: u64) -> u8
     ensures { result ≡ variable_cause own twice v }
 {
-    pick(v < 16, pick(has(own, v) & !has(twice, v), 11, 8), 7)
+    let alone = if has(own, v) & !has(twice, v) { 11 } else { 8 };
+    if v < 16 { alone } else { 7 }
 }
 
 // 7 and 8: a fixed variable.
 fn fixed_cause(above: u16, v: u64) -> u8
     ensures { result ≡ fixed_cause above v }
 {
-    pick(v < 16, pick(has(above, v), 11, 8), 7)
+    let bound = if has(above, v) { 11 } else { 8 };
+    if v < 16 { bound } else { 7 }
 }
 
 // 7 and 9: an aggregate of function f, where `there` tells that its column is there and `ratio` that it is a ratio.
 fn aggregate_cause(there: bool, f: u8, ratio: bool) -> u8
     ensures { result ≡ aggregate_cause there f ratio }
 {
-    pick(there, pick(((f == 1) | (f == 4)) & ratio, 9, 11), 7)
+    if !there {
+        return 7;
+    }
+    if ((f == 1) | (f == 4)) & ratio { 9 } else { 11 }
 }
 
 // The description of block k, an empty one where it is not kept.
@@ -86,136 +77,99 @@ fn kept(q: Question, k: usize) -> Block
     if k < 5 {
         return q.blocks[k];
     }
-    Block {
-        parent: 0,
-        rows_at: 0,
-        rows: 0,
-        conditions_at: 0,
-        conditions: 0,
-        outputs_at: 0,
-        outputs: 0,
-        end: 0,
-    }
+    Block::default()
 }
 
 // Whether block k is there, a child of block j, with an output column c.
 fn child_there(q: Question, j: u8, k: u8, c: u8) -> bool
     ensures { result ≡ child_there q j k c }
 {
-    let at = k as usize;
+    let at = usize::from(k);
     let b = kept(q, at);
-    (at < q.count) & (at < 5) & ((0 < k) & (b.parent == j) & ((c as usize) < b.outputs))
+    (at < q.count) & (at < 5) & ((0 < k) & (b.parent == j) & (usize::from(c) < b.outputs))
 }
 
 // The lowest cause of one element, by its kind.
+#[tactic(auto, unfolding(crate::specs::Walk::element_cause))]
 fn element_cause(s: &[u8], x: Context, e: Item) -> u8
     ensures { result ≡ element_cause s.now x e }
 {
-    let kind = e.kind;
-    if kind == 0 {
-        return 11;
+    match e.kind {
+        0 => 11,
+        1 => constant_cause(e.argument),
+        2 => variable_cause(x.own, x.twice, e.argument),
+        3 => fixed_cause(x.above, e.argument),
+        _ => {
+            let q = x.question;
+            let there = child_there(q, x.block, e.block, e.column);
+            aggregate_cause(there, e.function, ratio(s, q, 4, e.block, e.column))
+        }
     }
-    if kind == 1 {
-        return constant_cause(e.argument);
-    }
-    if kind == 2 {
-        return variable_cause(x.own, x.twice, e.argument);
-    }
-    if kind == 3 {
-        return fixed_cause(x.above, e.argument);
-    }
-    let q = x.question;
-    let there = child_there(q, x.block, e.block, e.column);
-    aggregate_cause(there, e.function, ratio(s, q, 4, e.block, e.column))
 }
 
-// The least of m and the causes of n elements from a place on.
-fn elements_cause(s: &[u8], x: Context, at: usize, n: usize, m: u8) -> u8
-    requires { m ≤ 11 }
-    ensures is { result ≡ elements_cause s.now x n at m }
-    ensures small { result ≤ 11 }
+// The least of the causes of n elements from a place on.
+#[tactic(auto, unfolding(crate::specs::Causes::lowest))]
+fn elements_cause(s: &[u8], x: Context, at: usize, n: usize) -> u8
+    ensures { result ≡ elements_cause s.now x n at 11 }
 {
-    let mut least = m;
-    let mut i = at;
-    let mut more = n;
-    while (more > 0) & (i < s.len()) {
-        least = lower(least, element_cause(s, x, item_at(s, i)));
-        i += 9;
-        more -= 1;
+    let mut least: u8 = 11;
+    for i in each_element(s, at, n) {
+        least = least.min(element_cause(s, x, item_at(s, i)));
     }
     least
 }
 
 // 7: the table of the relation row at a place is absent, or has another number of columns.
+#[tactic(auto, unfolding(crate::specs::Walk::row_cause_at))]
 fn row_cause(words: &[i32], s: &[u8], at: usize) -> u8
     requires { at < length s.now }
     ensures { result ≡ row_cause_at words.now s.now at }
 {
     let t = byte_at(s, at + 2);
     let n = byte_at(s, at + 3);
-    pick(
-        (wide(t) < tables::tables(words)) & (wide(n) == tables::columns(words, t)),
-        11,
-        7,
-    )
+    let there = u32::from(t) < tables::tables(words);
+    if there & (u32::from(n) == tables::columns(words, t)) {
+        11
+    } else {
+        7
+    }
 }
 
-fn wide(x: u8) -> u32
-    ensures { result ≡ x }
+// The least of the causes of n relation rows from a place on.
+#[tactic(auto, unfolding(crate::specs::Causes::lowest))]
+fn rows_cause(words: &[i32], s: &[u8], x: Context, at: usize, n: usize) -> u8
+    ensures { result ≡ rows_cause words.now s.now x n at 11 }
 {
-    x as u32
-}
-
-fn size(x: u8) -> usize
-    ensures { (result ≡ x) × (result < 256) }
-{
-    x as usize
-}
-
-// The least of m and the causes of n relation rows from a place on.
-fn rows_cause(words: &[i32], s: &[u8], x: Context, at: usize, n: usize, m: u8) -> u8
-    requires { m ≤ 11 }
-    ensures is { result ≡ rows_cause words.now s.now x n at m }
-    ensures small { result ≤ 11 }
-{
-    let mut least = m;
-    let mut i = at;
-    let mut more = n;
-    while (more > 0) & (i < s.len()) {
-        let inside = size(byte_at(s, i + 3));
-        least = elements_cause(s, x, i + 4, inside, lower(least, row_cause(words, s, i)));
-        i = i + 4 + 9 * inside;
-        more -= 1;
+    let mut least: u8 = 11;
+    for i in each_relation(s, at, n) {
+        let inside = usize::from(byte_at(s, i + 3));
+        let entries = elements_cause(s, x, i + 4, inside);
+        least = least.min(row_cause(words, s, i).min(entries));
     }
     least
 }
 
-// The least of m and the causes of n conditions from a place on.
-fn conditions_cause(s: &[u8], x: Context, at: usize, n: usize, m: u8) -> u8
-    requires { m ≤ 11 }
-    ensures is { result ≡ conditions_cause s.now x n at m }
-    ensures small { result ≤ 11 }
+// The least of the causes of n conditions from a place on.
+#[tactic(auto, unfolding(crate::specs::Causes::lowest))]
+fn conditions_cause(s: &[u8], x: Context, at: usize, n: usize) -> u8
+    ensures { result ≡ conditions_cause s.now x n at 11 }
 {
-    let mut least = m;
-    let mut i = at;
-    let mut more = n;
-    while (more > 0) & (i < s.len()) {
-        least = elements_cause(s, x, i + 3, 2, least);
-        i = condition_end(s, i);
-        more -= 1;
+    let mut least: u8 = 11;
+    for i in each_condition(s, at, n) {
+        least = least.min(elements_cause(s, x, i + 3, 2));
     }
     least
 }
 
-// The least of m and the causes of a block's elements.
-fn block_cause(words: &[i32], s: &[u8], x: Context, b: Block, m: u8) -> u8
-    requires { m ≤ 11 }
-    ensures is { result ≡ block_cause words.now s.now x b m }
-    ensures small { result ≤ 11 }
+// The least of the causes of a block's elements.
+#[tactic(auto, using(crate::proofs::WalkLaws::block_joined))]
+fn block_cause(words: &[i32], s: &[u8], x: Context, b: Block) -> u8
+    ensures { result ≡ block_cause words.now s.now x b 11 }
 {
-    let rows = rows_cause(words, s, x, b.rows_at, b.rows, m);
-    let conditions = conditions_cause(s, x, b.conditions_at, b.conditions, rows);
-    elements_cause(s, x, b.outputs_at, b.outputs, conditions)
+    let rows = rows_cause(words, s, x, b.rows_at, b.rows);
+    let conditions = conditions_cause(s, x, b.conditions_at, b.conditions);
+    let outputs = elements_cause(s, x, b.outputs_at, b.outputs);
+    rows.min(conditions).min(outputs)
 }
 
 // The variables that two of the first n blocks own.
@@ -224,12 +178,10 @@ fn twice_of(s: &[u8], q: Question, n: u8) -> u16
 {
     let mut seen: u16 = 0;
     let mut twice: u16 = 0;
-    let mut k: u8 = 0;
-    while k < n {
+    for k in 0..n {
         let own = scope::own(s, scope::block_of(q, k));
         twice = twice | (seen & own);
         seen = seen | own;
-        k += 1;
     }
     twice
 }
@@ -241,12 +193,10 @@ fn above_of(s: &[u8], q: Question, j: u8) -> u16
     let b = scope::block_of(q, j);
     let mut up = b.parent;
     let mut mask: u16 = 0;
-    let mut left: u8 = 6;
-    while left > 0 {
+    for _step in 0..6u8 {
         let a = scope::block_of(q, up);
         mask = mask | scope::own(s, a);
         up = a.parent;
-        left -= 1;
     }
     mask
 }
@@ -257,16 +207,20 @@ fn place_cause(q: Question, j: u8) -> u8
 {
     let b = scope::block_of(q, j);
     if j == 0 {
-        return pick(b.parent == 255, 11, 7);
+        return if b.parent == 255 { 11 } else { 7 };
     }
-    pick((b.parent < j) & (scope::level(q, j) <= 4), 11, 7)
+    if (b.parent < j) & (scope::level(q, j) <= 4) {
+        11
+    } else {
+        7
+    }
 }
 
 // What the elements of block j are held to.
 fn context_of(s: &[u8], q: Question, twice: u16, j: u8) -> Context
     ensures { result ≡ context_at s.now q twice j }
 {
-    let own = scope::own(s, kept(q, size(j)));
+    let own = scope::own(s, kept(q, usize::from(j)));
     let above = above_of(s, q, j);
     Context {
         question: q,
@@ -277,15 +231,13 @@ fn context_of(s: &[u8], q: Question, twice: u16, j: u8) -> Context
     }
 }
 
-// The least of m and the causes of block j.
-fn cause_at(words: &[i32], s: &[u8], q: Question, twice: u16, j: u8, m: u8) -> u8
-    requires { m ≤ 11 }
-    ensures is { result ≡ cause_at words.now s.now q twice j m }
-    ensures small { result ≤ 11 }
+// The least of the causes of block j.
+fn cause_at(words: &[i32], s: &[u8], q: Question, twice: u16, j: u8) -> u8
+    ensures { result ≡ cause_at words.now s.now q twice j 11 }
 {
     let x = context_of(s, q, twice, j);
-    let b = kept(q, size(j));
-    block_cause(words, s, x, b, lower(m, place_cause(q, j)))
+    let b = kept(q, usize::from(j));
+    place_cause(q, j).min(block_cause(words, s, x, b))
 }
 
 // The least cause from 7 to 10 of the first n blocks, 11 where none applies.
@@ -294,10 +246,8 @@ fn blocks_cause(words: &[i32], s: &[u8], q: Question, n: u8) -> u8
 {
     let twice = twice_of(s, q, n);
     let mut least: u8 = 11;
-    let mut j: u8 = 0;
-    while j < n {
-        least = cause_at(words, s, q, twice, j, least);
-        j += 1;
+    for j in 0..n {
+        least = least.min(cause_at(words, s, q, twice, j));
     }
     least
 }

@@ -1,5 +1,6 @@
+use Prim.Native.Nat.{◌-◌, ◌+◌}
 use native.Mathlib.Omega.{arith}
-use mathlib.Core.Path.{subst, sym}
+use mathlib.Core.Path.{◌≡◌, subst, sym}
 use Rattle.reader.specs.Causes.{ancestor}
 use Rattle.model.specs.Question.{block_at}
 use Rattle.reader.proofs.MaskLoops.{Climbing, climbing-begin, climbing-more, climbing-end, own_is, parent_is}
@@ -7,45 +8,26 @@ use Rattle.scope.specs.Masks.{mask_of}
 use Rattle.syntax.specs.Described.{blocks_in}
 use Rattle.reader.proofs.above_of.Goals as goal
 
-pub block_of-b-requires : goal.block_of-b-requires
-block_of-b-requires c = tt
+pub loop-step-init : goal.loop-step-init
+loop-step-init c =
+    let a = c.args in
+    let q = blocks_in a.s.now a.q in
+    let b = c.block_of-b in
+    subst (λ p. Climbing q (mask_of (ancestor 5 q (block_at q a.j).parent)) 6 p 0)
+    (sym (parent_is a.s.now b.result _ (b.ensures a.s.now))) (climbing-begin q (block_at q a.j).parent)
 
-pub loop-left-init : goal.loop-left-init
-loop-left-init c = subst (λ p. Climbing (blocks_in c.args.s.now c.args.q)
-    (mask_of (ancestor 5 (blocks_in c.args.s.now c.args.q)
-    (block_at (blocks_in c.args.s.now c.args.q)
-    c.args.j).parent)) 6 p 0)
-    (sym (parent_is c.args.s.now c.block_of-b.result _
-    (c.block_of-b.ensures c.args.s.now)))
-    (climbing-begin (blocks_in c.args.s.now c.args.q)
-    (block_at (blocks_in c.args.s.now c.args.q)
-    c.args.j).parent)
-
-pub block_of-a-requires : goal.block_of-a-requires
-block_of-a-requires c = tt
-
-pub own-mask-requires : goal.own-mask-requires
-own-mask-requires c = tt
-
-pub overflow_sub-left : goal.overflow_sub-left
-overflow_sub-left c = let f = c.loop-left-test.true in omega arith
-
-pub loop-left-smaller : goal.loop-left-smaller
-loop-left-smaller c = let f = c.loop-left-test.true in omega arith
-
-pub loop-left-preserved : goal.loop-left-preserved
-loop-left-preserved c = climbing-more (blocks_in c.args.s.now
-    c.args.q) _ c.loop-left.left
-    c.loop-left.up c.loop-left.mask c.own-mask.result
-    c.block_of-a.result.parent c.loop-left-test.true
-    (own_is c.args.s.now c.block_of-a.result _
-    c.own-mask.result
-    (c.block_of-a.ensures c.args.s.now)
-    c.own-mask.ensures) (parent_is c.args.s.now
-    c.block_of-a.result _ (c.block_of-a.ensures
-    c.args.s.now)) c.loop-left.invariant
+pub loop-step-preserved : goal.loop-step-preserved
+loop-step-preserved c =
+    let s = c.args.s.now in
+    let l = c.loop-step in
+    let b = c.block_of-a in
+    let left : 6 - (l._step + 1) ≡ 6 - l._step - 1 = omega arith in
+    rw left
+    (climbing-more (blocks_in s c.args.q) _ (6 - l._step) l.up l.mask c.own-mask.result b.result.parent (omega arith)
+    (own_is s b.result _ c.own-mask.result (b.ensures s) c.own-mask.ensures) (parent_is s b.result _ (b.ensures s))
+    l.invariant)
 
 pub returns : goal.returns
-returns c = climbing-end (blocks_in c.args.s.now
-    c.args.q) _ c.loop-left.left c.loop-left.up
-    c.loop-left.mask c.loop-left-test.false c.loop-left.invariant
+returns c =
+    let l = c.loop-step in
+    climbing-end (blocks_in c.args.s.now c.args.q) _ (6 - l._step) l.up l.mask (omega arith) l.invariant

@@ -1,23 +1,9 @@
-use native.Mathlib.Omega.{arith}
 use Rattle.reader.proofs.MaskLoops.{seen_none, seen_more, seen_all, own_is}
 use Rattle.syntax.specs.Described.{blocks_in}
 use Rattle.reader.proofs.twice_of.Goals as goal
 
 pub loop-k-init : goal.loop-k-init
 loop-k-init c = seen_none (blocks_in c.args.s.now c.args.q) c.args.n
-
-pub block_of-requires : goal.block_of-requires
-block_of-requires c = tt
-
-pub own-own-requires : goal.own-own-requires
-own-own-requires c = tt
-
-pub overflow_add-k : goal.overflow_add-k
-overflow_add-k c = let f = c.loop-k-test.true in
-    let b = c.ranges.n.fits in omega arith
-
-pub loop-k-smaller : goal.loop-k-smaller
-loop-k-smaller c = let f = c.loop-k-test.true in omega arith
 
 pub loop-k-preserved : goal.loop-k-preserved
 loop-k-preserved c = seen_more (blocks_in c.args.s.now
