@@ -19,7 +19,7 @@ use Rattle.model.proofs.ListEquations.{overwrite-is}
 use Rattle.words.proofs.WordLaws.{length_with, get-put, read_in, write_past, write_in, zeroed}
 use Rattle.aggregates.specs.Columns.{aggregate_in}
 use Rattle.words.specs.Words.{room_of, with_value, read_at, words_with, words_zeroed}
-use Rattle.aggregates.specs.declared.Aggregate.TheVariants.{Of}
+use Rattle.std.specs.Prelude.{Ok}
 use Rattle.syntax.proofs.Elements.{le-or}
 use Rattle.value.specs.declared.Value.{Value}
 use Rattle.filing.specs.Files.{is_filed, filled_mark, words_before, words_in, emptied, told, slot_value, slot_filed}
@@ -283,7 +283,7 @@ slots_length a k n columns count sets fl (suc i) =
 
 -- what a slot asks for
 pub slot_told : (a : Asked) (k i columns count : ℕ) (sets : List ℤ) (v : Value)
-    → aggregate_in (function_at a (3 * k + i)) (column_at a (3 * k + i)) columns count sets ≡ Of v
+    → aggregate_in (function_at a (3 * k + i)) (column_at a (3 * k + i)) columns count sets ≡ Ok v
     → slot_value a k i columns count sets ≡ v
 slot_told a k i columns count sets v e = slot_value_is a k i columns count sets ∙ ap told e
 

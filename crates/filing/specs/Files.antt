@@ -20,8 +20,9 @@ use Rattle.groups.specs.Groups.{mark_place, slot_place}
 use Rattle.groups.specs.declared.Asked.{Asked}
 use Rattle.aggregates.specs.Columns.{aggregate_in}
 use Rattle.words.specs.Words.{read_at, words_with, words_zeroed}
-use Rattle.aggregates.specs.declared.Aggregate.{Aggregate}
-use Rattle.aggregates.specs.declared.Aggregate.TheVariants.{Of, Outside, Refused}
+use Rattle.std.specs.Prelude.{Result}
+use Rattle.std.specs.Result.{result_unwrap_or}
+use Rattle.aggregates.specs.declared.Fault.{Fault}
 use Rattle.value.specs.declared.Value.{Value}
 
 unfoldable pub is_filed : List ℤ → ℕ → ℕ → Bool
@@ -39,10 +40,8 @@ emptied k n fl =
     (take (words_before k) fl ++ words_zeroed (words_in n) (drop (words_before k) fl))
     fl
 
-abbrev pub told : Aggregate → Value
-told (Of v) = v
-told Outside = record { num = pos 0; den = pos 0 }
-told Refused = record { num = pos 0; den = pos 0 }
+abbrev pub told : Result Value Fault → Value
+told g = result_unwrap_or g (record { num = pos 0; den = pos 0 })
 
 unfoldable pub slot_value : Asked → (k i columns count : ℕ) → List ℤ → Value
 slot_value a k i columns count sets =

@@ -6,7 +6,6 @@ ghost use Rattle.aggregates.specs.Columns.{aggregate_in};
 ghost use Rattle.words.specs.Words.{words_with};
 ghost use Rattle.filing.specs.Files.{told, slots_filed};
 
-use aggregates::Aggregate;
 use groups::{Ask, Asked, NO_ASK};
 use value::Value;
 
@@ -40,19 +39,9 @@ pub(crate) fn marked(v: Value) -> bool
     v.num >= 1
 }
 
-// The value of an aggregate; 0/0, which is absent, where there is none. In a run every aggregate asked for has a value
-// (aggregates: proofs/FairValues.antt, aggregate-told).
-pub(crate) fn told_by(g: Aggregate) -> Value
-    ensures { result ≡ told g }
-{
-    match g {
-        Aggregate::Of(v) => v,
-        Aggregate::Outside => Value { num: 0, den: 0 },
-        Aggregate::Refused => Value { num: 0, den: 0 },
-    }
-}
-
-// What is asked for, of a set of count rows of n columns in the words, put at a place of the files.
+// What is asked for, of a set of count rows of n columns in the words, put at a place of the files; 0/0, which is absent,
+// where there is none. In a run every aggregate asked for has a value (aggregates: proofs/FairValues.antt,
+// aggregate-told).
 pub(crate) fn put_slot(
     files: &mut [i64],
     place: usize,
@@ -64,13 +53,8 @@ pub(crate) fn put_slot(
     ensures { files.new ≡ words_with files.old place
         (told (aggregate_in ask.function ask.column n count sets.now)) }
 {
-    let v = told_by(aggregates::aggregate_of(
-        sets,
-        n,
-        count,
-        ask.function,
-        usize::from(ask.column),
-    ));
+    let v = aggregates::aggregate_of(sets, n, count, ask.function, usize::from(ask.column))
+        .unwrap_or(value::absent());
     words::write(files, place, v);
 }
 

@@ -1,5 +1,6 @@
 -- Looking a row up in a set and putting it in: the answer and every word after it, for every argument. Where the words
 -- encode an ascending set of the model, this is the model's insertion (proofs/Inserting.antt: outcome, encodes_after).
+--   Added               what a search and an insertion answer
 --   compare_from n x i l j   n values of x from place i against those of l from place j: the first order that
 --                          is not Equal; None where a value is outside the bounds
 --   at_place n x l r         the candidate x against row r of l
@@ -25,6 +26,9 @@ use Rattle.rows.specs.declared.Place.TheVariants as place
 use Rattle.rows.specs.declared.Fault.{Fault}
 use Rattle.rows.specs.declared.Fault.TheVariants as fault
 
+abbrev pub Added : Type 0
+Added = Result Place Fault
+
 unfoldable pub compare_from : ℕ → List ℤ → ℕ → List ℤ → ℕ → Option Ordering
 compare_from zero x i l j = Some Equal
 compare_from (suc n) x i l j =
@@ -48,13 +52,13 @@ upper (Some Greater) mid hi = hi
 abbrev pub middle : ℕ → ℕ → ℕ
 middle lo hi = lo + (hi - lo) / 2
 
-abbrev pub turn_of : Option Ordering → ℕ → Result Place Fault → Result Place Fault
+abbrev pub turn_of : Option Ordering → ℕ → Added → Added
 turn_of None mid p = Err fault.Outside
 turn_of (Some Less) mid p = p
 turn_of (Some Equal) mid p = Ok (place.There mid)
 turn_of (Some Greater) mid p = p
 
-unfoldable pub bisect : (ℕ → Option Ordering) → ℕ → ℕ → ℕ → Result Place Fault
+unfoldable pub bisect : (ℕ → Option Ordering) → ℕ → ℕ → ℕ → Added
 bisect at zero lo hi = Ok (place.New lo)
 bisect at (suc f) lo hi =
     cond (ltb lo hi)
@@ -65,24 +69,24 @@ bisect at (suc f) lo hi =
 unfoldable pub fits_in : ℕ → ℕ → ℕ → ℕ → Bool
 fits_in n count w x = leb 1 n && (leb n 4 && (leb count 256 && (leb n x && leb (count * n) w)))
 
-unfoldable pub find_of : ℕ → ℕ → List ℤ → List ℤ → Result Place Fault
+unfoldable pub find_of : ℕ → ℕ → List ℤ → List ℤ → Added
 find_of n count l x =
     cond (fits_in n count (room_of (length l)) (room_of (length x))) (bisect (at_place n x l) count 0 count)
     (Err fault.Refused)
 
-unfoldable pub as_new : ℕ → ℕ → ℕ → ℕ → Result Place Fault
+unfoldable pub as_new : ℕ → ℕ → ℕ → ℕ → Added
 as_new n count w k =
     cond (leb 256 count) (Err fault.Large) (cond (leb ((count + 1) * n) w) (Ok (place.New k)) (Err fault.Refused))
 
-abbrev pub by_place : ℕ → ℕ → ℕ → Result Place Fault → Result Place Fault
+abbrev pub by_place : ℕ → ℕ → ℕ → Added → Added
 by_place n count w (Ok (place.New k)) = as_new n count w k
 by_place n count w (Ok (place.There k)) = Ok (place.There k)
 by_place n count w (Err f) = Err f
 
-unfoldable pub added_of : ℕ → ℕ → List ℤ → List ℤ → Result Place Fault
+unfoldable pub added_of : ℕ → ℕ → List ℤ → List ℤ → Added
 added_of n count l x = by_place n count (room_of (length l)) (find_of n count l x)
 
-unfoldable pub words_after : ℕ → ℕ → List ℤ → List ℤ → Result Place Fault → List ℤ
+unfoldable pub words_after : ℕ → ℕ → List ℤ → List ℤ → Added → List ℤ
 words_after n count l x (Ok (place.New k)) =
     paste (shifted (words_of (k * n)) (words_of (count * n)) (words_of n) l) (words_of (k * n)) x (words_of n)
 words_after n count l x (Ok (place.There k)) = l

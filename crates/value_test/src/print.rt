@@ -1,10 +1,10 @@
 // Lines of text: numbers, values and answers in words.
 ghost use Rattle.std.specs.Prelude.{◌≡◌, nat_abs};
 
-use aggregates::Aggregate;
-use rows::Added;
+use rows::Place;
+use std::cmp::Ordering;
 use std::io;
-use value::{Compared, Mean, Value, Verdict};
+use value::Value;
 
 // A value.
 pub(crate) fn over(num: i64, den: i64) -> Value {
@@ -49,38 +49,37 @@ pub(crate) fn truth(rt: &impl Print, t: bool) -> io::Result<()> {
 }
 
 // An order.
-pub(crate) fn order(rt: &impl Print, o: Compared) -> io::Result<()> {
+pub(crate) fn order(rt: &impl Print, o: Option<Ordering>) -> io::Result<()> {
     match o {
-        Compared::Less => say(rt, "less"),
-        Compared::Equal => say(rt, "equal"),
-        Compared::Greater => say(rt, "greater"),
-        Compared::Outside => say(rt, "outside"),
+        Some(Ordering::Less) => say(rt, "less"),
+        Some(Ordering::Equal) => say(rt, "equal"),
+        Some(Ordering::Greater) => say(rt, "greater"),
+        None => say(rt, "outside"),
     }
 }
 
-// A verdict.
-pub(crate) fn verdict(rt: &impl Print, v: Verdict) -> io::Result<()> {
+// Whether an operator is met.
+pub(crate) fn verdict(rt: &impl Print, v: Option<bool>) -> io::Result<()> {
     match v {
-        Verdict::Yes => say(rt, "yes"),
-        Verdict::No => say(rt, "no"),
-        Verdict::Outside => say(rt, "outside"),
+        Some(met) => truth(rt, met),
+        None => say(rt, "outside"),
     }
 }
 
 // An average.
-pub(crate) fn mean(rt: &impl Print, m: Mean) -> io::Result<()> {
+pub(crate) fn mean(rt: &impl Print, m: Option<Value>) -> io::Result<()> {
     match m {
-        Mean::Of(v) => ratio(rt, v),
-        Mean::Outside => say(rt, "outside"),
+        Some(v) => ratio(rt, v),
+        None => say(rt, "outside"),
     }
 }
 
 // An aggregate.
-pub(crate) fn aggregate(rt: &impl Print, a: Aggregate) -> io::Result<()> {
+pub(crate) fn aggregate(rt: &impl Print, a: Result<Value, aggregates::Fault>) -> io::Result<()> {
     match a {
-        Aggregate::Of(v) => ratio(rt, v),
-        Aggregate::Outside => say(rt, "outside"),
-        Aggregate::Refused => say(rt, "refused"),
+        Ok(v) => ratio(rt, v),
+        Err(aggregates::Fault::Outside) => say(rt, "outside"),
+        Err(aggregates::Fault::Refused) => say(rt, "refused"),
     }
 }
 
@@ -90,13 +89,13 @@ pub(crate) fn place(rt: &impl Print, text: &str, k: usize) -> io::Result<()> {
 }
 
 // What became of a row.
-pub(crate) fn added(rt: &impl Print, a: Added) -> io::Result<()> {
+pub(crate) fn added(rt: &impl Print, a: Result<Place, rows::Fault>) -> io::Result<()> {
     match a {
-        Added::New(k) => place(rt, "new ", k),
-        Added::There(k) => place(rt, "there ", k),
-        Added::Outside => say(rt, "outside"),
-        Added::Large => say(rt, "large"),
-        Added::Refused => say(rt, "refused"),
+        Ok(Place::New(k)) => place(rt, "new ", k),
+        Ok(Place::There(k)) => place(rt, "there ", k),
+        Err(rows::Fault::Outside) => say(rt, "outside"),
+        Err(rows::Fault::Large) => say(rt, "large"),
+        Err(rows::Fault::Refused) => say(rt, "refused"),
     }
 }
 

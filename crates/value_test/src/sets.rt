@@ -2,20 +2,17 @@
 ghost use Rattle.std.specs.Prelude.{ℕ, ◌<◌, ◌≤◌, IfOk};
 
 use crate::print;
-use rows::Added;
+use rows::{Fault, Place};
 use std::io;
-use value::{Mean, Value};
+use value::Value;
 
 // One for a row that is new.
-fn is_new(a: Added) -> usize
+fn is_new(a: Result<Place, Fault>) -> usize
     ensures { result ≤ 1 }
 {
     match a {
-        Added::New(k) => 1,
-        Added::There(k) => 0,
-        Added::Outside => 0,
-        Added::Large => 0,
-        Added::Refused => 0,
+        Ok(Place::New(_)) => 1,
+        _ => 0,
     }
 }
 
@@ -222,12 +219,8 @@ fn large(k: u64) -> i64 {
 
 // A ratio in lowest terms written at a place of a row.
 fn put(row: &mut [i64], p: usize, sum: i64, count: u64) {
-    let m = value::average(sum, count);
-    match m {
-        Mean::Of(v) => {
-            words::write(row, p, v);
-        }
-        Mean::Outside => {}
+    if let Some(v) = value::average(sum, count) {
+        words::write(row, p, v);
     }
 }
 
