@@ -15,6 +15,7 @@ use lib.ListN.{length, get_or, drop}
 use Rattle.outline.proofs.PartLaws.{parts_in, filled-long, filled-back, filled_at}
 use Rattle.outline.specs.Stored.{no_outline, outline_from, outline_in, blocks_in, words_of, stored, Narrow}
 use Rattle.outline.specs.declared.Outline.{Outline}
+use Rattle.syntax.specs.Places.{no_block}
 use borrow.Author.Tests.{le-leb, lt-leb, leb-true}
 
 pub blocks_at : (code : List ℕ) (k : ℕ) → k < 5 → (o : Outline) → get_or (blocks_in code) k o ≡ outline_in code k
@@ -119,3 +120,21 @@ module _ (os : List Outline) (a : List ℕ) where
           ap (λ i. get_or (stored os a) i 0) e
           ∙ ap (λ b. get_or b (16 * (0 + k) + n) 0) (stored-enough h)
           ∙ filled_at (stored_words os) (λ k. refl) 0 a 5 h k n l m
+
+-- three numbers that are all 0
+pub three_zeros : (l : List ℕ) → length l ≡ 3 → ((i d : ℕ) → i < 3 → get_or l i d ≡ 0) → l ≡ 0 ∷ 0 ∷ 0 ∷ []
+three_zeros [] e f = absurd (omega arith)
+three_zeros (a ∷ []) e f = absurd (omega arith)
+three_zeros (a ∷ b ∷ []) e f = absurd (omega arith)
+three_zeros (a ∷ b ∷ c ∷ []) e f = λ i. f 0 0 (omega arith) i ∷ f 1 0 (omega arith) i ∷ f 2 0 (omega arith) i ∷ []
+three_zeros (a ∷ b ∷ c ∷ d ∷ l) e f = absurd (omega arith)
+
+-- the description of `Outline::default`
+pub default_is : (o : Outline) → o.places ≡ no_block → o.level ≡ 0 → o.named ≡ 0 → o.live.count ≡ 0
+    → o.live.places ≡ 0 ∷ 0 ∷ 0 ∷ [] → o ≡ no_outline
+default_is o p l n c w = λ i. record {
+  places = p i;
+  level = l i;
+  named = n i;
+  live = record { count = c i; places = w i };
+}

@@ -2,7 +2,7 @@ use Rattle.std.proofs.Common.{rules}
 use Prim.Native.Nat.{◌+◌}
 use native.Mathlib.Omega.{arith}
 use mathlib.Core.Path.{◌≡◌, refl, sym, ap, subst, ◌∙◌}
-use lib.ListN.{length}
+use lib.ListN.{length, get_or}
 use Rattle.outline.proofs.PartLaws.{inside, storing-begin, storing-more, storing-end}
 use Rattle.outline.proofs.StoredLaws.{stored_words, stored-enough, stored_short}
 use Rattle.outline.specs.Stored.{no_outline, words_of, Narrow}
@@ -13,21 +13,6 @@ loop-block-init c =
     let a = c.args in
     storing-begin (stored_words a.q.blocks) (λ k. refl) _ 0 a.code.now (omega (arith, c.if-code-ge80.true))
 
-pub overflow_cast-block : goal.overflow_cast-block
-overflow_cast-block c = omega (arith, c.loop-block-test.true)
-
-pub offset_bounds-q-block : goal.offset_bounds-q-block
-offset_bounds-q-block c = omega (arith, c.loop-block-test.true)
-
-pub bounds-q-block : goal.bounds-q-block
-bounds-q-block c = omega (arith, c.loop-block-test.true)
-
-pub overflow_add-block : goal.overflow_add-block
-overflow_add-block c = omega (arith, c.loop-block-test.true)
-
-pub loop-block-smaller : goal.loop-block-smaller
-loop-block-smaller c = omega (arith, c.loop-block-test.true)
-
 pub loop-block-preserved : goal.loop-block-preserved
 loop-block-preserved c =
     let l = c.loop-block in
@@ -35,14 +20,12 @@ loop-block-preserved c =
     let five : length a.q.blocks ≡ 5 =
     search rules in
     let zero : l.block ≡ 0 + l.block = omega arith in
-    let same = inside a.q.blocks l.block _ no_outline (omega (arith, five, c.loop-block-test.true)) in
+    let same = ap (λ k. get_or a.q.blocks k _) c.from.ensures
+    ∙ inside a.q.blocks l.block _ no_outline (omega (arith, five, c.loop-block-test.true)) in
     storing-more (stored_words a.q.blocks) (λ k. refl) _ 0 a.code.now
     (omega (arith, c.if-code-ge80.true)) l.block l.block c.words_of.result.words l.code
     c.put_part.new.code c.loop-block-test.true zero (c.words_of.ensures.0 ∙ ap words_of same)
     (subst Narrow same c.words_of.ensures.1) c.put_part.ensures l.invariant
-
-pub shape_of-code : goal.shape_of-code
-shape_of-code c = c.loop-block.invariant.long
 
 pub returns-after-loop-block : goal.returns-after-loop-block
 returns-after-loop-block c =

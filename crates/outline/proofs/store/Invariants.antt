@@ -1,5 +1,5 @@
 -- The descriptions of the blocks below the next are in their places.
-use Prim.Native.Nat.{◌-◌}
+
 use lib.ListN.{get_or}
 use Rattle.outline.proofs.PartLaws.{Storing}
 use Rattle.outline.proofs.StoredLaws.{stored_words}
@@ -9,6 +9,3 @@ use Rattle.outline.proofs.store.Given as goal
 abbrev pub invariant-loop-block : goal.invariant-loop-block
 invariant-loop-block l =
     Storing (stored_words l.q.blocks) (λ k. Narrow (get_or l.q.blocks k no_outline)) 0 l.initial.code l.block l.code
-
-abbrev pub decreases-loop-block : goal.decreases-loop-block
-decreases-loop-block l = 5 - l.block
