@@ -5,16 +5,15 @@ use mathlib.Core.Bool.{false}
 use mathlib.Core.List.{List, ◌++◌, append-nil}
 use mathlib.Core.Path.{◌≡◌, refl, sym, ap, ap₂, ◌∙◌}
 use lib.IntN.{ℤ, pos}
-use lib.ListN.{length, get_or, take, drop, length-drop, drop_of_length-le}
+use lib.ListN.{length, take, drop, length-drop, drop_of_length-le}
 use lib.Seq.{take_all}
 use lib.Signed.{le_z}
 use borrow.Author.Tests.{lt-ltb, le-ltb, lt-leb, le-leb, eq-eqb, ne_eqb}
 use borrow.Rule.Slice.PartMut.{put_mid, mid_of}
-use Rattle.groups.specs.Asking.{no_ask, asked_at, function_at, column_at}
+use Rattle.groups.specs.Asking.{asked_at, function_at, column_at}
 use Rattle.groups.specs.Groups.{mark_place, slot_place}
 use Rattle.groups.specs.declared.Ask.{Ask}
 use Rattle.groups.specs.declared.Asked.{Asked}
-use Rattle.std.proofs.lemmas.List.{get_or_past}
 use Rattle.aggregates.specs.Columns.{aggregate_in}
 use Rattle.words.specs.Words.{read_at, words_with, words_zeroed}
 use Rattle.filing.specs.Files.{is_filed, words_before, words_in, emptied, told, slot_value, slot_filed}
@@ -91,16 +90,6 @@ unfolding slots_to slots_filed
 slots_end a k n columns count i sets start fl h g so_far =
     so_far
     ∙ (let e : i ≡ 3 = omega arith in ap (slots_to a k n columns count sets start) e)
-
--- past the fifth block no slot asks for anything
-pub slots_past : (a : Asked) (k n columns count : ℕ) (sets start : List ℤ) → length a.slots ≡ 15 → 5 ≤ k
-    → start ≡ slots_filed a k n columns count sets start
-unfolding slots_filed
-slots_past a k n columns count sets start long h = sym (none 2 _ ∙ none 1 _ ∙ none 0 start)
-  where
-    none : (i : ℕ) (fl : List ℤ) → slot_filed a k n i columns count sets fl ≡ fl
-    none i fl =
-        slot-none a k n i columns count sets fl (ap (λ (x : Ask). x.function) (get_or_past a.slots (3 * k + i) no_ask (omega arith)))
 
 -- the two ways through slot i: b is the block's number, x what the array has there
 module _ (a : Asked) (k n columns count b i : ℕ) (x : Ask) (sets start fl : List ℤ) (same : b ≡ k)

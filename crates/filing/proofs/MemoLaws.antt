@@ -1,18 +1,16 @@
 -- Values met, over plain values: the group of a value, and equal bits.
-use Prim.Native.Nat.{ℕ, suc, ◌-◌, ◌%◌, ◌<◌, ◌^◌}
+use Prim.Native.Nat.{ℕ, suc, ◌-◌, ◌<◌, ◌^◌}
 use native.Mathlib.Omega.{arith}
 use mathlib.Core.Bool.{Bool, true, false}
-use mathlib.Core.Path.{◌≡◌, refl, sym, ap, ◌∙◌, subst}
-use borrow.Author.Tests.{eq-eqb, ne_eqb, eqb-true, eqb-false, ltb-true, le-ltb}
-use lib.Dec.{T, eqb}
-use lib.IntN.{ℤ, pos, negsuc, nat_abs, ◌-ℤ◌}
-use lib.Signed.{mag, lt_z, non_neg}
-use mir.Facts.{to_z-of_z}
+use mathlib.Core.Path.{◌≡◌, refl, sym, ◌∙◌}
+use borrow.Author.Tests.{eq-eqb, ne_eqb, eqb-true, eqb-false}
+use lib.Dec.{eqb}
+use lib.IntN.{ℤ, pos, negsuc}
+use lib.Signed.{mag}
 use mir.Syntax.{w64}
-use mir.Val.{SFits, Fits, of_z, to_z}
-use Rattle.model.specs.Tables.{nat_of}
+use mir.Val.{of_z}
 use Rattle.model.specs.Value.{compare_z, equal_z}
-use Rattle.filing.specs.Memo.{distance, key_group}
+use Rattle.filing.specs.Memo.{key_group}
 
 -- ---- the group of a value
 pub key_small : (z : ℤ) → key_group z < 256

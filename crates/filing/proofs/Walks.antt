@@ -1,15 +1,12 @@
 -- One turn of each walk over plain values: what is asked for after it, and what a walk that stops leaves.
-use Prim.Native.Nat.{ℕ, zero, suc, ◌+◌, ◌*◌, ◌-◌, ◌≤◌, ◌<◌, min}
+use Prim.Native.Nat.{ℕ, zero, suc, ◌+◌, ◌≤◌, ◌<◌, min}
 use native.Mathlib.Omega.{arith}
-use mathlib.Core.Bool.{true, false, ◌&&◌}
 use mathlib.Core.List.{List, [], ◌∷◌, ◌++◌, map}
-use mathlib.Core.Logic.{◌⊎◌, inl, inr, ⊎_elim}
+use mathlib.Core.Logic.{⊎_elim}
 use mathlib.Core.Path.{◌≡◌, refl, sym, ap, ◌∙◌}
-use lib.Dec.{ltb}
 use native.Mathlib.Numerals.{add-one}
-use lib.ListN.{length, get_or, set, take, drop, replicate}
+use lib.ListN.{length, get_or, take, drop, replicate}
 use lib.Seq.{drop-nil}
-use borrow.Author.Tests.{lt-ltb, le-ltb, ltb-true, ltb-false}
 use Rattle.groups.specs.declared.Asked.{Asked}
 use Rattle.limits.specs.Limits.{others_in}
 use Rattle.model.specs.Lists.{concat_map}
@@ -17,29 +14,11 @@ use Rattle.model.specs.Question.{Element, empty, Condition, other_elements}
 use Rattle.syntax.proofs.WalkLaws.{elements_walk, conditions_walk}
 use Rattle.syntax.specs.Walks.{element_places, condition_places}
 use Rattle.syntax.proofs.Elements.{le-or}
-use Rattle.syntax.proofs.Laws.{byte_past, both, on}
 use Rattle.syntax.specs.Described.{decode, element_at, elements_at, condition_at, conditions_at, described, blocks_in}
-use Rattle.syntax.specs.Places.{byte_at, word_at, condition_end, no_block}
+use Rattle.syntax.specs.Places.{byte_at, word_at, no_block}
 use Rattle.syntax.specs.declared.Block.{Block}
 use Rattle.syntax.specs.declared.Question.{Question}
 use Rattle.filing.specs.Asks.{ask, ask_of, ask_all, sides}
-
--- a function of a column of block k, where the block is past the fifth, has three, has fewer
-pub ask_far : (a : Asked) (f k i c : ℕ) → i ≡ k → 5 ≤ i → a ≡ ask a f k c
-unfolding ask
-ask_far a f k i c e h = rw (sym e, le-ltb i 5 h) refl
-
-pub ask_full : (a : Asked) (f k i c : ℕ) → i ≡ k → i < 5 → 3 ≤ get_or a.counts i 0 → a ≡ ask a f k c
-unfolding ask
-ask_full a f k i c e h g = rw (sym e, lt-ltb i 5 h, le-ltb (get_or a.counts i 0) 3 g) refl
-
-pub ask_more : (a : Asked) (f k i c n : ℕ) → i ≡ k → i < 5 → get_or a.counts i 0 < 3 → n ≡ get_or a.counts i 0
-    → record {
-      slots = set a.slots (3 * i + n) (record { function = f; column = c });
-      counts = set a.counts i (get_or a.counts i 0 + 1);
-    } ≡ ask a f k c
-unfolding ask
-ask_more a f k i c n e h g m = rw (sym e, m, lt-ltb i 5 h, lt-ltb (get_or a.counts i 0) 3 g) refl
 
 -- an element of a kind past 3 is an aggregate, one of another kind is none
 decode-named : (t : Asked) (k a f b c : ℕ) → 3 < k → ask t f b c ≡ ask_of t (decode k a f b c)

@@ -1,7 +1,7 @@
 use Rattle.std.proofs.Common.{rules}
 use Prim.Native.Nat.{◌+◌}
 use native.Mathlib.Omega.{arith}
-use mathlib.Core.Path.{refl, sym, ap, ◌∙◌}
+use mathlib.Core.Path.{sym, ap, ◌∙◌}
 use Rattle.filing.specs.Asks.{no_asked, ask_all}
 use Rattle.filing.proofs.Walks.{others_from, blocks_start, blocks-turn, blocks-done}
 use Rattle.filing.proofs.asks_of.Goals as goal

@@ -1,6 +1,5 @@
 -- `filing::asks_of` meets its contract. The loop's invariant: the blocks from the k-th on, after those passed, give
 -- the whole. Five blocks are kept, whatever the count.
-use Prim.Native.Nat.{◌-◌}
 use mathlib.Core.Path.{◌≡◌}
 use Rattle.limits.specs.Limits.{others_in}
 use Rattle.filing.specs.Asks.{no_asked, ask_all}

@@ -2,8 +2,8 @@ use Rattle.groups.specs.Asking.{asked_at}
 use Rattle.std.proofs.Common.{rules}
 use Prim.Native.Nat.{◌+◌, ◌*◌}
 use native.Mathlib.Omega.{arith}
-use mathlib.Core.Path.{◌≡◌, refl, ap, ◌∙◌}
-use lib.ListN.{length, get_or}
+use mathlib.Core.Path.{◌≡◌, ap, ◌∙◌}
+use lib.ListN.{length}
 use Rattle.filing.proofs.Cases.{slots_begin, slots_end, slots-left, slots-put}
 use Rattle.filing.proofs.FileLaws.{slots_length}
 use Rattle.filing.proofs.slots.file_slots.Goals as goal

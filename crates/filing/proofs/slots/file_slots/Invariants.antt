@@ -1,6 +1,5 @@
 -- `filing::slots::file_slots` meets its contract. The loop's invariant: the slots before the i-th are filled, and no
 -- other. Past the fifth block there is nothing to fill.
-use Prim.Native.Nat.{◌-◌, ◌≤◌}
 use mathlib.Core.Path.{◌≡◌}
 use Rattle.filing.proofs.Cases.{slots_to}
 use Rattle.filing.proofs.slots.file_slots.Given as goal

@@ -4,7 +4,7 @@ use lib.ListN.{length}
 use mathlib.Core.List.{map}
 use mathlib.Core.Path.{◌≡◌}
 use Rattle.model.specs.Lists.{All, concat_map}
-use Rattle.syntax.specs.Described.{element_at, elements_at, condition_at, conditions_at}
+use Rattle.syntax.specs.Described.{condition_at, conditions_at}
 use Rattle.syntax.specs.Walks.{to_come}
 use Rattle.filing.specs.Asks.{ask_all, sides}
 use Rattle.filing.proofs.walk.ask_conditions.Given as goal

@@ -3,10 +3,10 @@ use Prim.Native.Nat.{◌<◌}
 use lib.ListN.{length}
 use mathlib.Core.List.{map}
 use mathlib.Core.Path.{◌≡◌}
-use Rattle.model.specs.Lists.{All, concat_map}
-use Rattle.syntax.specs.Described.{element_at, elements_at, condition_at, conditions_at}
+use Rattle.model.specs.Lists.{All}
+use Rattle.syntax.specs.Described.{element_at, elements_at}
 use Rattle.syntax.specs.Walks.{to_come}
-use Rattle.filing.specs.Asks.{ask_all, sides}
+use Rattle.filing.specs.Asks.{ask_all}
 use Rattle.filing.proofs.walk.ask_elements.Given as goal
 
 abbrev pub invariant-loop-i : goal.invariant-loop-i
