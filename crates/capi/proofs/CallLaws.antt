@@ -5,7 +5,7 @@ use native.Mathlib.Omega.{arith}
 use mathlib.Core.Bool.{Bool, true, false, ◌&&◌}
 use mathlib.Core.List.{List, [], ◌∷◌}
 use mathlib.Core.Path.{◌≡◌, refl, ◌∙◌, ap}
-use borrow.Author.Tests.{le-leb, lt-leb, le-ltb, ltb-true, ltb-false}
+use borrow.Author.Tests.{le-leb, lt-leb, ltb-true}
 use lib.Dec.{ltb}
 use lib.IntN.{ℤ}
 use lib.ListN.{length, set}
@@ -64,17 +64,13 @@ module _ (d : List ℤ) (bs ps : List ℕ) (budget : ℕ) (r sets files : List �
       )
 
 -- a table or a column past 255 is absent
-pub absent : (d : List ℤ) (t c : ℕ) → first_of (data_causes d) ≡ 0 → (ltb t 256 && ltb c 256) ≡ false
+pub absent : (d : List ℤ) (t c : ℕ) → first_of (data_causes d) ≡ 0 → (t < 256 → c < 256 → ⊥)
     → (ltb t (tables d) && ltb c (columns d t)) ≡ false
-absent d t c z h = go (ltb t (tables d)) refl (ltb t 256) refl h
+absent d t c z h = go (ltb t (tables d)) refl (ltb c (columns d t)) refl
   where
-    go : (x : Bool) → ltb t (tables d) ≡ x → (y : Bool) → ltb t 256 ≡ y → (y && ltb c 256) ≡ false
-        → (x && ltb c (columns d t)) ≡ false
-    go false e y f g = refl
-    go true e false f g =
-        let l = ltb-true t (tables d) e in
-        let u = ltb-false t 256 f in
-        absurd (omega (arith, (accepted-laid d z).few-tables))
-    go true e true f g =
-        let l = ltb-true t (tables d) e in
-        le-ltb c (columns d t) (omega (arith, (accepted-laid d z).few-columns t l, ltb-false c 256 g))
+    go : (x : Bool) → ltb t (tables d) ≡ x → (y : Bool) → ltb c (columns d t) ≡ y → (x && y) ≡ false
+    go false e y f = refl
+    go true e false f = refl
+    go true e true f =
+        let l = ltb-true t (tables d) e in let m = ltb-true c (columns d t) f in
+        absurd (h (omega (arith, (accepted-laid d z).few-tables)) (omega (arith, (accepted-laid d z).few-columns t l)))

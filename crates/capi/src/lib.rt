@@ -20,7 +20,7 @@ fn put_figures(a: Answer, figures: &mut [u64])
     requires { 4 ≤ length figures.old }
     ensures { figures.new ≡ overwrite (figures_in a) figures.old }
 {
-    figures[0] = a.number as u64;
+    figures[0] = u64::from(a.number);
     figures[1] = a.rows as u64;
     figures[2] = a.columns as u64;
     figures[3] = a.trials;
@@ -81,8 +81,8 @@ pub extern "C" fn abe_index(words: &[i32], table: u32, column: u32, out: &mut [u
     ensures number { result ≡ index_number words.now table column (length out.old) }
     ensures words { out.new ≡ index_after words.now table column out.old }
 {
-    if (table < 256) & (column < 256) {
-        return model::number(indexes::index(words, table as u8, column as u8, out));
+    if let (Ok(t), Ok(c)) = (u8::try_from(table), u8::try_from(column)) {
+        return model::number(indexes::index(words, t, c, out));
     }
     match tables::check(words) {
         Ok(()) => Refusal::Absent.number(),
@@ -90,7 +90,7 @@ pub extern "C" fn abe_index(words: &[i32], table: u32, column: u32, out: &mut [u
     }
 }
 
-// The relation of a number: 0 less, 1 equal, 2 greater, 3 and above absent.
+// The relation of a number, as the C interface numbers it: 0 less, 1 equal, 2 greater, 3 and above absent.
 fn relation_numbered(n: u32) -> Relation
     ensures { result ≡ relation_numbered n }
 {
@@ -102,26 +102,20 @@ fn relation_numbered(n: u32) -> Relation
     }
 }
 
-// The chart's answer as a byte: 1 met, 0 not met.
-fn met_byte(op: u8, r: Relation) -> u8
-    ensures { result ≡ cond (chart_of (case_of op r)) 1 0 }
-{
-    if chart::meets(op, r) { 1 } else { 0 }
-}
-
 // The chart of the operators (chart::meets): its answer in the first lent byte. No byte lent is number 2, an operator
 // over 5 or a relation over 3 is number 5, and both change nothing.
 #[unsafe(no_mangle)]
+#[tactic(auto, unfolding(crate::specs::Calls::chart_number, crate::specs::Calls::chart_causes, crate::specs::Calls::chart_after, model::specs::Refusal::first_of, model::specs::Lists::overwrite))]
 pub extern "C" fn abe_chart(operation: u32, relation: u32, met: &mut [u8]) -> u8
     ensures number { result ≡ chart_number operation relation (length met.old) }
     ensures met { met.new ≡ chart_after operation relation met.old }
 {
-    if met.len() == 0 {
+    if met.is_empty() {
         return 2;
     }
-    if (operation > 5) | (relation > 3) {
+    if operation > 5 || relation > 3 {
         return 5;
     }
-    met[0] = met_byte(operation as u8, relation_numbered(relation));
+    met[0] = u8::from(chart::meets(operation as u8, relation_numbered(relation)));
     0
 }

@@ -1,8 +1,6 @@
 -- The text for a job and the budget behind it, from what the calls give.
 --   budgeted-taken    where there is one; budgeted-left: where there is none
-use Prim.Native.Nat.{ℕ, ◌-◌, min}
-use native.Mathlib.Omega.{arith}
-use mathlib.Core.Bool.{true, false, cond}
+use Prim.Native.Nat.{ℕ, ◌-◌}
 use mathlib.Core.List.{List}
 use mathlib.Core.Option.{none, some}
 use Rattle.std.specs.Prelude.{Some, None}

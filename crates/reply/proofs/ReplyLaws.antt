@@ -3,17 +3,14 @@
 --   reply_job       the reply to the parts of a job; reply_bad: to bytes that are no job
 --   lengths_are     the buffers have the named lengths; answer_run: the text over what a run leaves in the result
 --   reply_listing   under the listing's budget it is the model's listing
-use Prim.Native.Nat.{ℕ, ◌-◌, ◌/◌, ◌≤◌, min}
+use Prim.Native.Nat.{ℕ, ◌/◌, ◌≤◌, min}
 use native.Mathlib.Omega.{arith}
-use mathlib.Core.Bool.{true, false, cond}
 use mathlib.Core.List.{List, ◌++◌}
 use mathlib.Core.Option.{Option, none, some}
 use Rattle.std.specs.Prelude.{Some, None}
-use mathlib.Core.Path.{◌≡◌, refl, sym, ◌∙◌, ap, ap₂}
-use borrow.Author.Tests.{leb-true, leb-false}
-use lib.Dec.{leb}
+use mathlib.Core.Path.{◌≡◌, refl, ◌∙◌, ap, ap₂}
 use lib.IntN.{ℤ}
-use lib.ListN.{length, take, drop, replicate, length-take, length-drop, length-replicate, drop_of_length-le}
+use lib.ListN.{length, take, drop, replicate, length-take, length-replicate}
 use lib.Seq.{take_all, take-append_seam}
 use Rattle.model.specs.Answer.{answer_of, result_after}
 use Rattle.model.specs.Listing.{Job, job_of, words_of, bad_job, listing_budget, long_enough, job_text, listing_of}
@@ -27,7 +24,6 @@ use Rattle.job.specs.declared.Parts.{Parts}
 use Rattle.job.proofs.JobLaws.{job-told}
 use Rattle.job.proofs.ListingLaws.{answer-told}
 use Rattle.job.proofs.WordLaws.{words-length}
-use Rattle.syntax.proofs.Laws.{on}
 use Rattle.reply.specs.Reply.{answered_under, reply_to, reply_of}
 
 -- ---- the words of the data

@@ -1,5 +1,5 @@
 -- The job before the budget is answered under it; other bytes are bad.
-use Rattle.std.proofs.Common.{◌≡◌, ◌∙◌, ◌-◌, ◌≤◌, ap, sym, take, min, length, arith}
+use Rattle.std.proofs.Common.{◌≡◌, ◌∙◌, ap, sym, take, min, length, arith}
 use Rattle.std.specs.Prelude.{Some}
 use Rattle.std.proofs.Math.Seq.{length-take-le}
 use Rattle.model.specs.Lists.{overwrite}
