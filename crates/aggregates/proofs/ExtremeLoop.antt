@@ -176,28 +176,28 @@ module _ (n : ℕ) (l : List ℤ) (c count : ℕ) (g : Bool) where
 
   module _ (x : Value) (j r : ℕ) (h : Choosing n l c count g x j r) where
     module _ (lt : r < count) (column : c < n) (fits : count * n ≤ room_of (length l)) (v : Value) (is : v ≡ read_at l j)
-        where
-      e : v ≡ value_at l j
-      e = column_read l n count c r j lt column fits h.place v is
+      where
+        e : v ≡ value_at l j
+        e = column_read l n count c r j lt column fits h.place v is
 
-      chose : extreme_with g x (v ∷ column_in n l (j + n) (count - (r + 1))) ≡ extreme_of g (column_in n l c count)
-      chose =
-          ap (λ y. extreme_with g x (y ∷ column_in n l (j + n) (count - (r + 1)))) e
-          ∙ sym (ap (extreme_with g x) (column-step n l j count r lt)) ∙ h.rest
+        chose : extreme_with g x (v ∷ column_in n l (j + n) (count - (r + 1))) ≡ extreme_of g (column_in n l c count)
+        chose =
+            ap (λ y. extreme_with g x (y ∷ column_in n l (j + n) (count - (r + 1)))) e
+            ∙ sym (ap (extreme_with g x) (column-step n l j count r lt)) ∙ h.rest
 
-      pub choosing_more : inside_of v ≡ true → (y : Value) → y ≡ better_of g x v
-          → Choosing n l c count g y (j + n) (r + 1)
-      choosing_more i y q = record {
-        within = omega arith;
-        place = omega (arith, h.place);
-        inside = ap inside_of q ∙ better_has (λ z. inside_of z ≡ true) g x v h.inside i;
-        rest =
-            ap (λ z. extreme_with g z (column_in n l (j + n) (count - (r + 1)))) q
-            ∙ sym (extreme_more g x v (column_in n l (j + n) (count - (r + 1))) h.inside i) ∙ chose;
-      }
+        pub choosing_more : inside_of v ≡ true → (y : Value) → y ≡ better_of g x v
+            → Choosing n l c count g y (j + n) (r + 1)
+        choosing_more i y q = record {
+          within = omega arith;
+          place = omega (arith, h.place);
+          inside = ap inside_of q ∙ better_has (λ z. inside_of z ≡ true) g x v h.inside i;
+          rest =
+              ap (λ z. extreme_with g z (column_in n l (j + n) (count - (r + 1)))) q
+              ∙ sym (extreme_more g x v (column_in n l (j + n) (count - (r + 1))) h.inside i) ∙ chose;
+        }
 
-      pub choosing_stop : inside_of v ≡ false → None ≡ extreme_of g (column_in n l c count)
-      choosing_stop i = sym (extreme_stop g x v (column_in n l (j + n) (count - (r + 1))) i) ∙ chose
+        pub choosing_stop : inside_of v ≡ false → None ≡ extreme_of g (column_in n l c count)
+        choosing_stop i = sym (extreme_stop g x v (column_in n l (j + n) (count - (r + 1))) i) ∙ chose
 
     pub choosing_end : count ≤ r → Some x ≡ extreme_of g (column_in n l c count)
     choosing_end le = sym (ap (extreme_with g x) (column-none n l j count r le) ∙ extreme_end g x h.inside) ∙ h.rest

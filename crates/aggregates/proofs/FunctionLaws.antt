@@ -22,12 +22,12 @@ use Rattle.value.proofs.Ints.{abs-add, read_back}
 use Rattle.value.proofs.Averaging.{average_none, average_of_lem}
 use Rattle.value.proofs.Laws.{both, inside_is}
 use Rattle.std.specs.Option.{ok_or}
-use Rattle.std.specs.Prelude.{Option, None, Some, Ok, Err}
-use Rattle.std.proofs.lemmas.Option.{none-some, same_Some, cond_some}
+use Rattle.std.specs.Prelude.{None, Some, Ok, Err}
+use Rattle.std.proofs.lemmas.Option.{none-some, cond_some}
 use Rattle.aggregates.specs.declared.Sum.{Sum}
 use Rattle.aggregates.specs.declared.Fault.TheVariants.{Outside}
 use Rattle.aggregates.specs.Columns.{column_in, aggregate_of_column, over_words}
-use Rattle.aggregates.specs.Folds.{sum_of_all, total_of, extreme_of}
+use Rattle.aggregates.specs.Folds.{total_of, extreme_of}
 use Rattle.aggregates.proofs.ColumnLaws.{so, column-length}
 
 pub over_count : (n c count : ℕ) (l : List ℤ)

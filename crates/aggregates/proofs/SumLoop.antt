@@ -121,31 +121,31 @@ module _ (n : ℕ) (l : List ℤ) (c count : ℕ) where
 
   module _ (t : Sum) (j r : ℕ) (h : Summing n l c count t j r) where
     module _ (lt : r < count) (column : c < n) (fits : count * n ≤ room_of (length l)) (v : Value) (is : v ≡ read_at l j)
-        where
-      e : v ≡ value_at l j
-      e = column_read l n count c r j lt column fits h.place v is
+      where
+        e : v ≡ value_at l j
+        e = column_read l n count c r j lt column fits h.place v is
 
-      summed : total_with t (v ∷ column_in n l (j + n) (count - (r + 1))) ≡ total_of (column_in n l c count)
-      summed =
-          ap (λ x. total_with t (x ∷ column_in n l (j + n) (count - (r + 1)))) e
-          ∙ sym (ap (total_with t) (column-step n l j count r lt)) ∙ h.rest
+        summed : total_with t (v ∷ column_in n l (j + n) (count - (r + 1))) ≡ total_of (column_in n l c count)
+        summed =
+            ap (λ x. total_with t (x ∷ column_in n l (j + n) (count - (r + 1)))) e
+            ∙ sym (ap (total_with t) (column-step n l j count r lt)) ∙ h.rest
 
-      pub summing_more : inside_of v ≡ true → (s : Sum) → s ≡ plus_of t v → Summing n l c count s (j + n) (r + 1)
-      summing_more i s q = record {
-        within = omega arith;
-        place = omega (arith, h.place);
-        small =
-            subst (λ z. nat_abs z.value ≤ (r + 1) * 1000000000000000) (sym q)
-            (rw (plus-value t v)
-            (omega (arith, abs-add t.value v.num, h.small, (inside_is v (so (inside_of v) i)).num)));
-        few = subst (λ z. z.present ≤ r + 1) (sym q) (omega (arith, plus-present t v, h.few));
-        rest =
-            ap (λ z. total_with z (column_in n l (j + n) (count - (r + 1)))) q
-            ∙ sym (total_more t v (column_in n l (j + n) (count - (r + 1))) i) ∙ summed;
-      }
+        pub summing_more : inside_of v ≡ true → (s : Sum) → s ≡ plus_of t v → Summing n l c count s (j + n) (r + 1)
+        summing_more i s q = record {
+          within = omega arith;
+          place = omega (arith, h.place);
+          small =
+              subst (λ z. nat_abs z.value ≤ (r + 1) * 1000000000000000) (sym q)
+              (rw (plus-value t v)
+              (omega (arith, abs-add t.value v.num, h.small, (inside_is v (so (inside_of v) i)).num)));
+          few = subst (λ z. z.present ≤ r + 1) (sym q) (omega (arith, plus-present t v, h.few));
+          rest =
+              ap (λ z. total_with z (column_in n l (j + n) (count - (r + 1)))) q
+              ∙ sym (total_more t v (column_in n l (j + n) (count - (r + 1))) i) ∙ summed;
+        }
 
-      pub summing_stop : inside_of v ≡ false → None ≡ total_of (column_in n l c count)
-      summing_stop i = sym (total_stop t v (column_in n l (j + n) (count - (r + 1))) i) ∙ summed
+        pub summing_stop : inside_of v ≡ false → None ≡ total_of (column_in n l c count)
+        summing_stop i = sym (total_stop t v (column_in n l (j + n) (count - (r + 1))) i) ∙ summed
 
     pub summing_end : count ≤ r → Some t ≡ total_of (column_in n l c count)
     summing_end le = sym (ap (total_with t) (column-none n l j count r le) ∙ total_end t) ∙ h.rest

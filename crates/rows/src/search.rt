@@ -26,7 +26,13 @@ pub(crate) fn compare_row(row: &[i64], words: &[i64], at: usize, n: usize) -> Op
 
 // The bisection between rows from and to, by exact value.
 #[tactic(auto, using(crate::proofs::SearchLoop::step_none, crate::proofs::SearchLoop::step_less, crate::proofs::SearchLoop::step_equal, crate::proofs::SearchLoop::step_greater, crate::proofs::SearchLoop::bisect_done, crate::proofs::CaseLaws::place_fits), unfolding(crate::specs::Insertion::at_place))]
-pub(crate) fn finish(row: &[i64], words: &[i64], n: usize, from: usize, to: usize) -> Result<Place, Fault>
+pub(crate) fn finish(
+    row: &[i64],
+    words: &[i64],
+    n: usize,
+    from: usize,
+    to: usize,
+) -> Result<Place, Fault>
     requires n_bound { (n ≤ 4) × (from ≤ to) × (to ≤ 256) }
     requires n_bound_2 { (n ≤ room_of (length row.now)) × (to * n ≤ room_of (length words.now)) }
     ensures { result ≡ bisect (at_place n row.now words.now) (to - from) from to }

@@ -6,7 +6,7 @@ use native.Mathlib.Omega.{arith}
 use mathlib.Core.Bool.{Bool, true, false, ◌&&◌, cond}
 use mathlib.Core.Path.{◌≡◌, refl, sym, ◌∙◌, ap, ap₂, subst}
 use mir.Syntax.{w64}
-use mir.Val.{SFits, to_z, of_z}
+use mir.Val.{to_z, of_z}
 use borrow.Author.Tests.{ltb-true, ltb-false, lt-ltb, le-leb}
 use lib.Dec.{T, eqb, ltb, leb, eqb→eq, ltb→lt, leb→le, lit<}
 use lib.IntN.{ℤ, pos, nat_abs, ◌*ℤ◌, negsuc}
@@ -24,7 +24,7 @@ use Rattle.chart.proofs.ChartAnswers.{chart_meets}
 use Rattle.chart.proofs.Orders.{int_cmp-is, relation_by-of}
 use Rattle.value.specs.declared.Value.{Value}
 use Rattle.value.specs.Exact.{exact, in_words, inside_of, Fair, tell, order_of, holds_of}
-use Rattle.value.proofs.Ints.{abs-zero, abs-mul-le, sfits_abs, read_back}
+use Rattle.value.proofs.Ints.{abs-zero, abs-mul-le, read_back}
 
 -- a value that is present has a denominator, an absent one none
 pub present-some : (v : Value) → model.present (exact v) ≡ true → 0 < nat_abs v.den

@@ -1,7 +1,7 @@
 -- A value is two words: what a put leaves, how a row is built and copied value by value, what a copied or zeroed buffer
 -- holds. Assumes nothing.
 use Prim.Native.Nat.{ℕ, zero, suc, ◌+◌, ◌*◌, ◌<◌, ◌≤◌, ◌-◌}
-use native.Mathlib.Nat.{mul-le-mul, not-suc-le-zero, le_of_suc-le-suc}
+use native.Mathlib.Nat.{not-suc-le-zero, le_of_suc-le-suc}
 use native.Mathlib.Omega.{arith}
 use mathlib.Core.Bool.{true}
 use mathlib.Core.List.{List, [], ◌∷◌, ◌++◌, append_assoc}
@@ -18,10 +18,6 @@ use Rattle.value.specs.Exact.{in_words}
 use Rattle.words.specs.Encoding.{Carries, Encodes}
 use Rattle.words.specs.Words.{room_of, words_of, value_at, with_value, read_at, words_with, copyable, words_copied}
 use Rattle.words.specs.Words.{words_zeroed, front_zeroed, behind_zeroed}
-
--- count rows of at most 4 columns are few values
-pub product-few : (count n a : ℕ) → count ≤ a → n ≤ 4 → count * n ≤ a * 4
-product-few count n a h k = mul-le-mul h k
 
 -- ---- one value
 pub length_with : (l : List ℤ) (p : ℕ) (v : stored.Value) → length (with_value l p v) ≡ length l
