@@ -33,6 +33,8 @@ pub struct Context {
     pub twice: u16,
 }
 
+// Causes are numbers here, 11 for none: the least of them is what `read` promises.
+
 // 10: a constant, given by its 64 bits, beyond 10^15 in size.
 fn constant_cause(a: u64) -> u8
     ensures { result ≡ constant_cause a }

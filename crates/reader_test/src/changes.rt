@@ -45,9 +45,8 @@ fn changed(at: usize, byte: u8) -> u8
 
 // One more of a number.
 fn add(tally: &mut [u64; 12], number: u8) {
-    let k = number as usize;
-    if k < 12 {
-        tally[k] = tally[k].wrapping_add(1);
+    if let Some(n) = tally.get_mut(usize::from(number)) {
+        *n = n.wrapping_add(1);
     }
 }
 

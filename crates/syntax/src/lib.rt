@@ -51,6 +51,8 @@ pub struct Block {
     pub end: usize,
 }
 
+// The first five blocks of a question, and of all of them how many there are, whether each is within its limits, and where
+// the last ends. The count stands beside the array, since nothing is allocated and later blocks are counted too.
 #[derive(Clone, Copy)]
 pub struct Question {
     pub blocks: [Block; 5],
