@@ -21,7 +21,7 @@ pub(crate) struct Sum {
 }
 
 // Why a column has no aggregate.
-#[derive(Clone, Copy)]
+#[derive(Clone, Copy, Debug, PartialEq, Eq)]
 pub enum Fault {
     Outside,
     Refused,

@@ -15,14 +15,14 @@ ghost use Rattle.words.specs.Words.{room_of};
 ghost use Rattle.rows.specs.Insertion.{find_of, as_new, added_of, words_after};
 
 // A row's place: as row k, new there or there already.
-#[derive(Clone, Copy)]
+#[derive(Clone, Copy, Debug, PartialEq, Eq)]
 pub enum Place {
     New(usize),
     There(usize),
 }
 
 // Why a row has no place; Large: it would be the 257th.
-#[derive(Clone, Copy)]
+#[derive(Clone, Copy, Debug, PartialEq, Eq)]
 pub enum Fault {
     Outside,
     Large,
