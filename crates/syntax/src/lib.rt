@@ -84,12 +84,19 @@ pub fn byte_at(s: &[u8], at: usize) -> u8
 pub fn head_at(s: &[u8], at: usize) -> Head
     ensures { result ≡ head_at s.now at }
 {
-    match s.get(at..) {
-        Some([kind, argument @ ..]) => Head {
+    let rest = s.get(at..).unwrap_or_default();
+    if let Some(&[kind, a, b, c, d, e, f, g, h]) = rest.first_chunk::<9>() {
+        return Head {
+            argument: u64::from_le_bytes([a, b, c, d, e, f, g, h]),
+            kind,
+        };
+    }
+    match rest {
+        [kind, argument @ ..] => Head {
             argument: word(argument),
             kind: *kind,
         },
-        _ => Head {
+        [] => Head {
             argument: 0,
             kind: 0,
         },
