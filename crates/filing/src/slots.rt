@@ -53,8 +53,13 @@ pub(crate) fn put_slot(
     ensures { files.new ≡ words_with files.old place
         (told (aggregate_in ask.function ask.column n count sets.now)) }
 {
-    let v = aggregates::aggregate_of(sets, n, count, ask.function, usize::from(ask.column))
-        .unwrap_or(value::absent());
+    let v = aggregates::aggregate_of(
+        sets,
+        n,
+        count,
+        ask.function,
+        usize::from(ask.column),
+    ).unwrap_or(value::absent());
     words::write(files, place, v);
 }
 

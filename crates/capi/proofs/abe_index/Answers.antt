@@ -20,5 +20,5 @@ returns-in-Err c =
     let a = c.args in
     let some = numbered c.in-Err.refusal in
     let r = index-data a.words.now a.table a.column a.out.now (number_of c.in-Err.refusal) c.in-Err.ensures
-        (λ z. omega arith) in
+    (λ z. omega arith) in
     record { number = c.number-in-Err.ensures ∙ r.0; words = r.1 }
