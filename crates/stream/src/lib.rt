@@ -1,8 +1,11 @@
 // The parts of a stream of bytes, one after another: a mark of two bytes, a length of four, the lowest first, and so many
-// bytes. The programs cases, reader_test and listings read such streams from standard input.
+// bytes. The programs cases, reader_test and listings read such streams from standard input. Which bytes a part has, and
+// which remain behind it, the contracts say of a reader whose remaining bytes are known, unless a read fails.
 #![tactic(auto)]
 
-ghost use Rattle.std.specs.Prelude.{◌≡◌, ◌≤◌, IfOk, IfSome, vec_len};
+ghost use Rattle.std.specs.Prelude.{◌≡◌, ◌≤◌, ◌<◌, IfOk, IfSome, OnOk, Some, Err, length, take, drop, option_map, vec_items, vec_len};
+ghost use Rattle.std.specs.Io.KnownBytes.{Consumes, IsAtEnd};
+ghost use Rattle.stream.specs.Parts.{head_of, next_head_of, contents_of, contents_rest, next_part_of, part_rest, result_map, UnlessReading};
 
 use std::alloc::{AllocError, Global};
 use std::error::Error;
@@ -29,6 +32,10 @@ impl fmt::Display for StreamError {
 impl Error for StreamError {}
 
 impl From<io::Error> for StreamError {
+    ghost use Rattle.stream.specs.declared.StreamError.{StreamError};
+
+    ghost from_gives = { λ e r. r ≡ StreamError.Reading e };
+
     fn from(e: io::Error) -> StreamError {
         StreamError::Reading(e)
     }
@@ -47,15 +54,59 @@ pub struct Head {
     pub length: u32,
 }
 
+// Fills the buffer from the stream, or as far as the stream goes; how many bytes were read.
+fn fill<R: Read>(stream: &mut R, buffer: &mut [u8]) -> io::Result<usize>
+    ensures within { IfOk result (λ n. n ≤ length buffer.new) }
+    ensures long { length buffer.new ≡ length buffer.old }
+    ensures bytes { IfOk result (λ n.
+        Consumes (R.remaining stream.old) (R.remaining stream.new) (take n buffer.new)) }
+    ensures end { IfOk result (λ n. n < length buffer.new → IsAtEnd (R.remaining stream.new)) }
+{
+    let mut filled = 0;
+    for _ in 0..u64::MAX {
+        if filled == buffer.len() {
+            return Ok(filled);
+        }
+        match stream.read(&mut buffer[filled..]) {
+            Ok(0) => return Ok(filled),
+            Ok(n) => filled += n,
+            Err(e) if e.kind() == io::ErrorKind::Interrupted => {}
+            Err(e) => return Err(e),
+        }
+    }
+    Err(io::Error::from(io::ErrorKind::TimedOut))
+}
+
 // The next bytes of the stream, so many, or all that are left where they are fewer.
-fn next_bytes(alloc: Global, stream: &mut impl Read, length: u32) -> io::Result<Vec<u8>> {
-    let mut bytes = Vec::new(alloc);
-    stream.take(u64::from(length)).read_to_end(&mut bytes)?;
+fn next_bytes<R: Read>(alloc: Global, stream: &mut R, length: u32) -> io::Result<Vec<u8>>
+    ensures bytes { IfSome (R.remaining stream.old) (λ xs.
+        IfOk result (λ v. v.items ≡ take length xs)) }
+    ensures rest { IfSome (R.remaining stream.old) (λ xs.
+        OnOk result (R.remaining stream.new ≡ Some (drop length xs))) }
+{
+    let mut bytes = vec![in alloc; 0; length as usize]?;
+    let filled = fill(stream, &mut bytes)?;
+    bytes.truncate(filled);
     Ok(bytes)
 }
 
+// The head in six bytes.
+fn head_of(h: [u8; 6]) -> Head
+    ensures { result ≡ head_of h }
+{
+    Head {
+        mark: [h[0], h[1]],
+        length: u32::from_le_bytes([h[2], h[3], h[4], h[5]]),
+    }
+}
+
 // The next part's head; none where the stream has ended.
-pub fn next_head(alloc: Global, stream: &mut impl Read) -> Result<Option<Head>, StreamError> {
+pub fn next_head<R: Read>(alloc: Global, stream: &mut R) -> Result<Option<Head>, StreamError>
+    ensures value { IfSome (R.remaining stream.old) (λ xs.
+        UnlessReading result (result ≡ next_head_of xs)) }
+    ensures rest { IfSome (R.remaining stream.old) (λ xs.
+        UnlessReading result (R.remaining stream.new ≡ Some (drop 6 xs))) }
+{
     let bytes = next_bytes(alloc, stream, 6)?;
     if bytes.is_empty() {
         return Ok(None);
@@ -63,20 +114,22 @@ pub fn next_head(alloc: Global, stream: &mut impl Read) -> Result<Option<Head>, 
     let Ok(h) = <[u8; 6]>::try_from(bytes.as_slice()) else {
         return Err(StreamError::Malformed);
     };
-    Ok(Some(Head {
-        mark: [h[0], h[1]],
-        length: u32::from_le_bytes([h[2], h[3], h[4], h[5]]),
-    }))
+    Ok(Some(head_of(h)))
 }
 
 // The contents of a part, so many bytes and no more than `most`.
-pub fn contents(
+pub fn contents<R: Read>(
     alloc: Global,
-    stream: &mut impl Read,
+    stream: &mut R,
     length: u32,
     most: u32,
 ) -> Result<Vec<u8>, StreamError>
-    ensures { IfOk result (λ v. (vec_len v ≡ length) × (length ≤ most)) }
+    ensures within { IfOk result (λ v. (vec_len v ≡ length) × (length ≤ most)) }
+    ensures past { most < length → (result ≡ Err StreamError.Malformed) × (stream.new ≡ stream.old) }
+    ensures value { IfSome (R.remaining stream.old) (λ xs.
+        UnlessReading result (result_map vec_items result ≡ contents_of length most xs)) }
+    ensures rest { IfSome (R.remaining stream.old) (λ xs.
+        UnlessReading result (R.remaining stream.new ≡ Some (contents_rest length most xs))) }
 {
     if length > most {
         return Err(StreamError::Malformed);
@@ -89,13 +142,17 @@ pub fn contents(
 }
 
 // The contents of the next part, which is to have this mark and at most so many bytes; none where the stream has ended.
-pub fn next_part(
+pub fn next_part<R: Read>(
     alloc: Global,
-    stream: &mut impl Read,
+    stream: &mut R,
     mark: [u8; 2],
     most: u32,
 ) -> Result<Option<Vec<u8>>, StreamError>
-    ensures { IfOk result (λ o. IfSome o (λ v. vec_len v ≤ most)) }
+    ensures within { IfOk result (λ o. IfSome o (λ v. vec_len v ≤ most)) }
+    ensures value { IfSome (R.remaining stream.old) (λ xs.
+        UnlessReading result (result_map (option_map vec_items) result ≡ next_part_of mark most xs)) }
+    ensures rest { IfSome (R.remaining stream.old) (λ xs.
+        UnlessReading result (R.remaining stream.new ≡ Some (part_rest mark most xs))) }
 {
     let Some(h) = next_head(alloc, stream)? else {
         return Ok(None);
@@ -141,5 +198,43 @@ mod tests {
             let told = next_part(rt.alloc(), &mut stream, *b"DA", most);
             assert!(rt; matches!(told, Err(StreamError::Malformed)));
         }
+    }
+
+    // It is interrupted before each read, gives a byte at a time, and fails where its bytes end.
+    #[derive(Drop)]
+    struct Halting<'a> {
+        bytes: &'a [u8],
+        is_interrupted: bool,
+    }
+
+    impl Read for Halting<'_> {
+        fn read(&mut self, buf: &mut [u8]) -> io::Result<usize> {
+            self.is_interrupted = !self.is_interrupted;
+            if self.is_interrupted {
+                return Err(io::Error::from(io::ErrorKind::Interrupted));
+            }
+            if self.bytes.is_empty() {
+                return Err(io::Error::from(io::ErrorKind::Other));
+            }
+            let most = buf.len().min(1);
+            self.bytes.read(&mut buf[..most])
+        }
+    }
+
+    // An interrupted read is tried again, and any other that fails is told.
+    #[test]
+    fn interrupted_reads_are_tried_again(rt: HostRuntime) {
+        let mut stream = Halting {
+            bytes: b"DA\x03\x00\x00\x00abcDA",
+            is_interrupted: false,
+        };
+        let first = next_part(rt.alloc(), &mut stream, *b"DA", 3);
+        let Ok(Some(first)) = first else {
+            assert!(rt; false);
+            return;
+        };
+        assert_eq!(rt; first.as_slice(), b"abc".as_slice());
+        let second = next_part(rt.alloc(), &mut stream, *b"DA", 3);
+        assert!(rt; matches!(second, Err(StreamError::Reading(_))));
     }
 }

@@ -1,0 +1,2 @@
+-- Lemmas on a stream's bytes.
+pub mod Filling

@@ -1,0 +1,2 @@
+-- The parts of a stream.
+pub mod Parts
