@@ -8,8 +8,8 @@ use mathlib.Core.List.{List, [], ◌∷◌, ◌++◌, append_assoc}
 use mathlib.Core.Path.{◌≡◌, refl, sym, ◌∙◌, ap, ap₂}
 use borrow.Author.Tests.{le-leb, lt-ltb, le-ltb}
 use lib.IntN.{ℤ, pos}
-use lib.ListN.{length, get_or, set, take, replicate, length-set, length-append}
-use lib.Seq.{paste, paste-suc, get_or-set_same, get_or-set_other}
+use lib.ListN.{length, get_or, set, take, drop, replicate, length-set, length-append}
+use lib.Seq.{paste, paste-suc, length-take-le, get_or-set_same, get_or-set_other}
 use Rattle.model.specs.Lists.{overwrite}
 use Rattle.model.specs.RowSet.{Row, row_words, set_words}
 use Rattle.model.specs.Value.{Value}
@@ -108,6 +108,12 @@ carries_more p x c v h r =
           ∙ append_assoc (row_words c) (v.num ∷ []) (pos v.den ∷ [])
           ∙ sym (row_words_more c v);
     }
+
+-- ---- whole buffers
+pub overwritten : (s l : List ℤ) (k : ℕ) → k ≤ length s → paste l 0 s k ≡ overwrite (take k s) l
+unfolding overwrite
+overwritten s l k h =
+    ap (λ m. take k s ++ drop m l) ((let e : 0 + k ≡ k = omega arith in e) ∙ sym (length-take-le k s h))
 
 pub copied : (m : ℕ) (s l : List ℤ) → copyable m s l ≡ true → words_copied m s l ≡ overwrite (take (words_of m) s) l
 unfolding words_copied

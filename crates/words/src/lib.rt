@@ -67,7 +67,7 @@ pub fn insert_values(words: &mut [i64], p: usize, e: usize, from: &[i64], n: usi
 }
 
 // The first m values copied to the start of another buffer, if both have room for them.
-#[tactic(auto, unfolding(crate::specs::Words::words_copied, model::specs::Lists::overwrite))]
+#[tactic(auto, using(crate::proofs::WordLaws::overwritten), unfolding(crate::specs::Words::words_copied))]
 pub fn copy(from: &[i64], to: &mut [i64], m: usize) -> bool
     ensures value { result ≡ copyable m from.now to.old }
     ensures to_after { to.new ≡ words_copied m from.now to.old }
@@ -75,7 +75,7 @@ pub fn copy(from: &[i64], to: &mut [i64], m: usize) -> bool
     if room(from.len()) < m || room(to.len()) < m {
         return false;
     }
-    to[..2 * m].copy_from_slice(&from[..2 * m]);
+    moves::put_values(to, 0, from, m);
     true
 }
 

@@ -64,3 +64,15 @@ pub(crate) fn put_row(words: &mut [i64], p: usize, row: &[i64], n: usize)
         places::put(words, p + c, places::get(row, c));
     }
 }
+
+// The first m values of another buffer put at place p, value by value: of a slice copied whole the compiler makes a call of
+// `memmove`, which nothing else in the archive for C needs.
+#[tactic(auto, using(crate::proofs::WordLaws::paste_value))]
+pub(crate) fn put_values(words: &mut [i64], p: usize, from: &[i64], m: usize)
+    requires { (p + m ≤ room_of (length words.old)) × (m ≤ room_of (length from.now)) }
+    ensures { words.new ≡ paste words.old (words_of p) from.now (words_of m) }
+{
+    for j in 0..m {
+        places::put(words, p + j, places::get(from, j));
+    }
+}
