@@ -1,14 +1,15 @@
 -- What the walks that gather variables hold: as much as all the records do, since past the end of the bytes nothing is
 -- held; and one turn of them.
-use Prim.Native.Nat.{ℕ, zero, suc, ◌+◌, ◌≤◌, ◌<◌}
+use Prim.Native.Nat.{ℕ, zero, suc, ◌+◌, ◌≤◌, ◌<◌, min}
 use native.Mathlib.Omega.{arith}
-use mathlib.Core.Bool.{Bool, true, false, ◌&&◌, ◌||◌}
+use mathlib.Core.Bool.{Bool, true, false, cond, ◌&&◌, ◌||◌}
 use mathlib.Core.List.{List, [], ◌∷◌}
 use mathlib.Core.Path.{◌≡◌, refl, sym, ap, ap₂, ◌∙◌}
 use lib.Bits.{bit_or}
 use lib.Dec.{eqb, ltb}
 use lib.ListN.{length}
-use Rattle.syntax.specs.Places.{item_at, byte_at, record_end, condition_end}
+use borrow.Author.Tests.{ne_eqb}
+use Rattle.syntax.specs.Places.{item_at, byte_at, word_at, record_end, condition_end}
 use Rattle.syntax.proofs.Conditions.{end-within, past-stays}
 use Rattle.syntax.specs.Walks.{places, element_places, condition_places, relation_places}
 use Rattle.syntax.specs.declared.Record.TheVariants.{Rw, Cd}
@@ -92,31 +93,48 @@ module _ (k : Kind) (bs : List ℕ) where
       (λ e. rw e (ap (λ b. holds_at k bs i v || b) (elements_held n (i + 9) v)))
       (λ e. rw e (sym (elements-past (suc n) i v (grind arith))))
 
--- ---- records that hold nothing past the end, and of which none past it leads back; before the end the walk leads on as
--- they do
-module _ (f : ℕ → ℕ → Bool) (next end : ℕ → ℕ) (bs : List ℕ) (past : (i v : ℕ) → length bs ≤ i → f i v ≡ false)
-    (stays : (i : ℕ) → length bs ≤ i → length bs ≤ next i) (same : (i : ℕ) → i < length bs → next i ≡ end i) where
-  records-past : (n i v : ℕ) → length bs ≤ i → records_hold f next n i v ≡ false
+-- ---- records that hold nothing past the end, and of which none past it leads back
+module _ (f : ℕ → ℕ → Bool) (next : ℕ → ℕ) (bs : List ℕ) (past : (i v : ℕ) → length bs ≤ i → f i v ≡ false)
+    (stays : (i : ℕ) → length bs ≤ i → length bs ≤ next i) where
+  pub records-past : (n i v : ℕ) → length bs ≤ i → records_hold f next n i v ≡ false
   unfolding records_hold
   records-past zero i v h = refl
   records-past (suc n) i v h = ap₂ ◌||◌ (past i v h) (records-past n (next i) v (stays i h))
 
-  records_held : (n i v : ℕ) → held f (places end bs n i) v ≡ records_hold f next n i v
-  unfolding held places records_hold
-  records_held zero i v = refl
-  records_held (suc n) i v =
-      on (ltb i (length bs))
-      (λ e. let s = same i (grind arith) in rw (e, s) (ap (λ b. f i v || b) (records_held n (end i) v)))
-      (λ e. rw e (sym (records-past (suc n) i v (grind arith))))
+  -- before the end the walk leads on as they do
+  module _ (end : ℕ → ℕ) (same : (i : ℕ) → i < length bs → next i ≡ end i) where
+    records_held : (n i v : ℕ) → held f (places end bs n i) v ≡ records_hold f next n i v
+    unfolding held places records_hold
+    records_held zero i v = refl
+    records_held (suc n) i v =
+        on (ltb i (length bs))
+        (λ e. let s = same i (grind arith) in rw (e, s) (ap (λ b. f i v || b) (records_held n (end i) v)))
+        (λ e. rw e (sym (records-past (suc n) i v (grind arith))))
 
 module _ (k : Kind) (bs : List ℕ) where
   pub rows_held : (n i v : ℕ) → held (row_holds k bs) (relation_places bs n i) v ≡ rows_hold k bs n i v
   rows_held =
-      records_held (row_holds k bs) (record_end Rw bs) (record_end Rw bs) bs
-      (λ j v h. elements-past k bs (byte_at bs (j + 3)) (j + 4) v (omega arith))
-      (λ j h. omega (arith, end_is Rw bs j)) (λ j h. refl)
+      records_held (row_holds k bs) (record_end Rw bs) bs
+      (λ j v h. elements-past k bs (byte_at bs (j + 3)) (j + 4) v (omega arith)) (λ j h. omega (arith, end_is Rw bs j))
+      (record_end Rw bs) (λ j h. refl)
 
   pub conditions_held : (n i v : ℕ) → held (condition_holds k bs) (condition_places bs n i) v ≡ conditions_hold k bs n i v
   conditions_held =
-      records_held (condition_holds k bs) (condition_end bs) (record_end Cd bs) bs
-      (λ j v h. elements-past k bs 2 (j + 3) v (omega arith)) (past-stays bs) (end-within bs)
+      records_held (condition_holds k bs) (condition_end bs) bs (λ j v h. elements-past k bs 2 (j + 3) v (omega arith))
+      (past-stays bs) (record_end Cd bs) (end-within bs)
+
+-- ---- elements by the number of their kind, 4 for every greater one; those of number 0 are empty and hold nothing
+module _ (k : ℕ) (bs : List ℕ) where
+  -- the element at place i has kind k and holds v
+  abbrev pub numbered_at : (i v : ℕ) → Bool
+  numbered_at i v =
+      eqb (min (byte_at bs i) 4) k && eqb v (cond (eqb k 4) (byte_at bs (i + 2)) (word_at bs (i + 1)))
+
+  numbered-none : 0 < k → (i v : ℕ) → length bs ≤ i → numbered_at i v ≡ false
+  numbered-none p i v h =
+      ap (λ x. eqb (min x 4) k && eqb v (cond (eqb k 4) (byte_at bs (i + 2)) (word_at bs (i + 1)))) (sym (byte_past bs i h))
+      ∙ ap (λ b. b && eqb v (cond (eqb k 4) (byte_at bs (i + 2)) (word_at bs (i + 1)))) (ne_eqb 0 k (λ e. omega arith))
+
+  -- none of n elements from a place past the end on has
+  pub numbered-past : (n i v : ℕ) → 0 < k → length bs ≤ i → records_hold numbered_at (λ j. j + 9) n i v ≡ false
+  numbered-past n i v p h = records-past numbered_at (λ j. j + 9) bs (numbered-none p) (λ j l. omega arith) n i v h

@@ -11,7 +11,7 @@ use borrow.Author.Tests.{ltb-true, ltb-false, lt-ltb, le-leb}
 use lib.Dec.{T, eqb, ltb, leb, eqb→eq, ltb→lt, leb→le, lit<}
 use lib.IntN.{ℤ, pos, nat_abs, ◌*ℤ◌, negsuc}
 use lib.Signed.{le_z}
-use Rattle.std.specs.Prelude.{None, Some}
+use Rattle.std.specs.Prelude.{Option, None, Some}
 use Rattle.std.specs.Ordering.{int_cmp}
 use Rattle.std.specs.declared.cmp.Ordering as cmp
 use Rattle.std.proofs.lemmas.Option.{none-some, same_Some}
@@ -168,6 +168,16 @@ module _ (op : ℕ) (x y : Value) where
           ap Some (met (order (exact x) (exact y)) refl)
           ∙ ap (λ p. Some (chart_of (case_of op (cond there (relation_by p) chart.Absent)))) (same_Some _ _ e)
       go false e = absurd (none-some _ e)
+
+-- what the chart tells of two values by their order, where there is one; `there` where both are present
+abbrev pub judge : ℕ → Bool → Option cmp.Ordering → Option Bool
+judge op there None = None
+judge op there (Some o) = Some (chart_of (case_of op (cond there (relation_by o) chart.Absent)))
+
+pub holds_by : (op : ℕ) (x y : Value) (o : Option cmp.Ordering) → order_of x y ≡ o
+    → holds_of op x y ≡ judge op (model.present (exact x) && model.present (exact y)) o
+holds_by op x y None e = holds_none op x y e
+holds_by op x y (Some o) e = holds_some op x y e
 
 -- ---- whole values: the numerators tell
 inside-whole : (n : ℤ) → inside_of (in_words (model.whole n)) ≡ leb (nat_abs n) 1000000000000000
