@@ -54,6 +54,23 @@ pub struct Head {
     pub length: u32,
 }
 
+// One read, tried again where it is interrupted, as often as std's `read_to_end` tries each of its own.
+fn read_again<R: Read>(stream: &mut R, buffer: &mut [u8]) -> io::Result<usize>
+    ensures within { IfOk result (λ n. n ≤ length buffer.new) }
+    ensures long { length buffer.new ≡ length buffer.old }
+    ensures bytes { IfOk result (λ n.
+        Consumes (R.remaining stream.old) (R.remaining stream.new) (take n buffer.new)) }
+    ensures end { IfOk result (λ n. n ≡ 0 → 0 < length buffer.new → IsAtEnd (R.remaining stream.new)) }
+{
+    for _ in 0..u64::MAX {
+        match stream.read(buffer) {
+            Err(e) if e.kind() == io::ErrorKind::Interrupted => {}
+            told => return told,
+        }
+    }
+    Err(io::Error::from(io::ErrorKind::TimedOut))
+}
+
 // Fills the buffer from the stream, or as far as the stream goes; how many bytes were read.
 fn fill<R: Read>(stream: &mut R, buffer: &mut [u8]) -> io::Result<usize>
     ensures within { IfOk result (λ n. n ≤ length buffer.new) }
@@ -63,18 +80,15 @@ fn fill<R: Read>(stream: &mut R, buffer: &mut [u8]) -> io::Result<usize>
     ensures end { IfOk result (λ n. n < length buffer.new → IsAtEnd (R.remaining stream.new)) }
 {
     let mut filled = 0;
-    for _ in 0..u64::MAX {
-        if filled == buffer.len() {
-            return Ok(filled);
-        }
-        match stream.read(&mut buffer[filled..]) {
+    // It goes on by as many bytes as a read gave, which no iterator counts.
+    while filled < buffer.len() {
+        match read_again(stream, &mut buffer[filled..]) {
             Ok(0) => return Ok(filled),
             Ok(n) => filled += n,
-            Err(e) if e.kind() == io::ErrorKind::Interrupted => {}
             Err(e) => return Err(e),
         }
     }
-    Err(io::Error::from(io::ErrorKind::TimedOut))
+    Ok(filled)
 }
 
 // The next bytes of the stream, so many, or all that are left where they are fewer.
