@@ -8,8 +8,10 @@
 --   part_rest mark most bs    what remains behind it; all but the head, where the mark is another or the length past the most
 --   result_map f r            r, with f of its value
 --   UnlessReading r P         P, unless r is an error of reading
+--   IsReading e P             e is an error of reading, by a cause of which P holds
 use Rattle.std.specs.Prelude.{ℕ, List, length, take, drop, nat_lt, ◌==◌, bytes_eq, if◌then◌else◌, Option, None, Some, Result, Ok, Err, ⊤}
 use Rattle.std.specs.Int.{w32, from_le_bytes}
+use Rattle.std.specs.declared.io.Error.{Error}
 use Rattle.stream.specs.declared.Head.{Head}
 use Rattle.stream.specs.declared.StreamError.{StreamError}
 use Rattle.stream.specs.declared.StreamError.TheVariants.{Malformed, Reading}
@@ -22,6 +24,10 @@ abbrev pub UnlessReading : {X : Type 0} → Result X StreamError → Type 0 → 
 UnlessReading (Ok x) P = P
 UnlessReading (Err Malformed) P = P
 UnlessReading (Err (Reading e)) P = ⊤
+
+abbrev pub IsReading : StreamError → (Error → Type 0) → Type 0
+IsReading Malformed P = ⊥
+IsReading (Reading e) P = P e
 
 abbrev pub head_of : List ℕ → Head
 head_of bs = record { mark = take 2 bs; length = from_le_bytes w32 (drop 2 bs) }

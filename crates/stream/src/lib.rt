@@ -5,7 +5,8 @@
 
 ghost use Rattle.std.specs.Prelude.{◌≡◌, ◌≤◌, ◌<◌, IfOk, IfSome, OnOk, Some, Err, length, take, drop, option_map, vec_items, vec_len};
 ghost use Rattle.std.specs.Io.KnownBytes.{Consumes, IsAtEnd};
-ghost use Rattle.stream.specs.Parts.{head_of, next_head_of, contents_of, contents_rest, next_part_of, part_rest, result_map, UnlessReading};
+ghost use Rattle.std.specs.IoError.{error_kind};
+ghost use Rattle.stream.specs.Parts.{head_of, next_head_of, contents_of, contents_rest, next_part_of, part_rest, result_map, UnlessReading, IsReading};
 
 use std::alloc::{AllocError, Global};
 use std::error::Error;
@@ -42,6 +43,10 @@ impl From<io::Error> for StreamError {
 }
 
 impl From<AllocError> for StreamError {
+    ghost use Rattle.std.specs.declared.io.ErrorKind.{ErrorKind};
+
+    ghost from_gives = { λ e r. IsReading r (λ cause. error_kind cause ≡ ErrorKind.OutOfMemory) };
+
     fn from(e: AllocError) -> StreamError {
         StreamError::Reading(io::Error::from(e))
     }
@@ -214,19 +219,31 @@ mod tests {
         }
     }
 
-    // It is interrupted before each read, gives a byte at a time, and fails where its bytes end.
+    // It is interrupted so many times before each read, gives a byte at a time, and fails where its bytes end.
     #[derive(Drop)]
     struct Halting<'a> {
         bytes: &'a [u8],
-        is_interrupted: bool,
+        interruptions: u32,
+        left: u32,
+    }
+
+    impl Halting<'_> {
+        fn on<'a>(bytes: &'a [u8], interruptions: u32) -> Halting<'a> {
+            Halting {
+                bytes,
+                interruptions,
+                left: interruptions,
+            }
+        }
     }
 
     impl Read for Halting<'_> {
         fn read(&mut self, buf: &mut [u8]) -> io::Result<usize> {
-            self.is_interrupted = !self.is_interrupted;
-            if self.is_interrupted {
+            if self.left > 0 {
+                self.left -= 1;
                 return Err(io::Error::from(io::ErrorKind::Interrupted));
             }
+            self.left = self.interruptions;
             if self.bytes.is_empty() {
                 return Err(io::Error::from(io::ErrorKind::Other));
             }
@@ -235,20 +252,19 @@ mod tests {
         }
     }
 
-    // An interrupted read is tried again, and any other that fails is told.
+    // An interrupted read is tried again, however often that is, and any other that fails is told.
     #[test]
     fn interrupted_reads_are_tried_again(rt: HostRuntime) {
-        let mut stream = Halting {
-            bytes: b"DA\x03\x00\x00\x00abcDA",
-            is_interrupted: false,
-        };
-        let first = next_part(rt.alloc(), &mut stream, *b"DA", 3);
-        let Ok(Some(first)) = first else {
-            assert!(rt; false);
-            return;
-        };
-        assert_eq!(rt; first.as_slice(), b"abc".as_slice());
-        let second = next_part(rt.alloc(), &mut stream, *b"DA", 3);
-        assert!(rt; matches!(second, Err(StreamError::Reading(_))));
+        for interruptions in [1, 1000] {
+            let mut stream = Halting::on(b"DA\x03\x00\x00\x00abcDA", interruptions);
+            let first = next_part(rt.alloc(), &mut stream, *b"DA", 3);
+            let Ok(Some(first)) = first else {
+                assert!(rt; false);
+                return;
+            };
+            assert_eq!(rt; first.as_slice(), b"abc".as_slice());
+            let second = next_part(rt.alloc(), &mut stream, *b"DA", 3);
+            assert!(rt; matches!(second, Err(StreamError::Reading(_))));
+        }
     }
 }
